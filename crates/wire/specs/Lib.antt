@@ -1,0 +1,5 @@
+pub mod Nonces
+pub mod Refusals
+pub mod Payloads
+pub mod Messages
+pub mod Decoding
