@@ -1,3 +1,4 @@
 pub mod Carried
 pub mod Failures
+pub mod Openings
 pub mod Padded

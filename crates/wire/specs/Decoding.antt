@@ -76,15 +76,19 @@ pub record Opened : Type 0 where
 unfoldable pub opened : List ℕ → Option Opened
 opened s = cond (opens s) (Some (record { body = take (half s 2 - 4) (drop 4 s); next = getD s 0 0; rest = drop (half s 2) s })) None
 
+-- the first payload of a chain, where it has this type; k is the type that is announced for it
+abbrev pub taken : ℕ → ℕ → List ℕ → Option Opened
+taken t k s = cond (eqb k t) (opened s) None
+
 abbrev pub before : List ℕ → Option (List (List ℕ)) → Option (List (List ℕ))
 before b None = None
 before b (Some bs) = Some (b ∷ bs)
 
--- The bodies of the payloads, where the chain has exactly these types; k is the type that is announced for the first.
+-- the bodies of the payloads, where the chain has exactly these types and ends with them
 abbrev pub bodies : List ℕ → ℕ → List ℕ → Option (List (List ℕ))
 bodies [] k s = cond (eqb k 0 && eqb (length s) 0) (Some []) None
 bodies (t ∷ ts) k s =
-    cond (eqb k t) (elim (opened s) [ None ↦ None | Some o ↦ before (o .body) (bodies ts (o .next) (o .rest)) ]) None
+    elim (taken t k s) [ None ↦ None | Some o ↦ before (o .body) (bodies ts (o .next) (o .rest)) ]
 
 -- the orders of types: an offer, a rekey, one payload alone, none
 abbrev pub offer-order : List ℕ

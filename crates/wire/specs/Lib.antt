@@ -3,3 +3,5 @@ pub mod Refusals
 pub mod Payloads
 pub mod Messages
 pub mod Decoding
+pub mod Chains
+pub mod Readings
