@@ -1,7 +1,10 @@
 pub mod Nonces
+pub mod Order
 pub mod Refusals
 pub mod Payloads
 pub mod Messages
+pub mod Encoding
 pub mod Decoding
+pub mod Texts
 pub mod Chains
 pub mod Readings

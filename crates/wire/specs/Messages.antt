@@ -106,13 +106,20 @@ abbrev pub response-flag : Body (List ℕ) → ℕ
 response-flag (body.Request r) = 0x00
 response-flag (body.Response r) = 0x20
 
--- the header of 28 octets, its last four the length of the whole, before the chain
-abbrev pub headed : Message (List ℕ) → ℕ → List ℕ → List ℕ
-headed m next rest =
+abbrev pub request-kinds : Request (List ℕ) → ℕ × ℕ
+request-kinds r = (first-type (request-parts r), request-exchange r)
+
+abbrev pub response-kinds : Response (List ℕ) → ℕ × ℕ
+response-kinds r = (first-type (response-parts r), response-exchange r)
+
+-- the type of the first payload, the version, the exchange and the flags
+abbrev pub kinds : Side → Body (List ℕ) → List ℕ
+kinds s b = first-type (parts-of b) ∷ 0x20 ∷ exchange-of b ∷ (sender-flag s + response-flag b) ∷ []
+
+-- The header of 28 octets, its last four the length of the whole, and then the payloads.
+abbrev pub octets-of : Message (List ℕ) → List ℕ
+octets-of m =
     be64 (m .initiator)
     ++ (be64 (m .responder)
-    ++ (next ∷ 0x20 ∷ exchange-of (m .body) ∷ (sender-flag (m .sender) + response-flag (m .body))
-    ∷ (be32 (m .id) ++ (be32 (28 + length rest) ++ rest))))
-
-abbrev pub octets-of : Message (List ℕ) → List ℕ
-octets-of m = headed m (first-type (parts-of (m .body))) (chain (parts-of (m .body)))
+    ++ (kinds (m .sender) (m .body)
+    ++ (be32 (m .id) ++ (be32 (28 + length (chain (parts-of (m .body)))) ++ chain (parts-of (m .body))))))

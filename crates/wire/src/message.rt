@@ -1,4 +1,6 @@
 //! What the messages about Child SAs say.
+ghost use mathlib.Core.Path.{_≡_};
+ghost use Rattle.wire.specs.Refusals.{decode-number, encode-number};
 use crate::side::Side;
 
 /// A message of one end to the other. `N` is how its nonce is held: as a part of the datagram
@@ -79,4 +81,22 @@ pub enum DecodeRefusal {
 pub enum EncodeRefusal {
     /// The buffer is shorter than the message.
     BufferTooShort = 45,
+}
+
+impl DecodeRefusal {
+    /// The number of the check.
+    pub fn number(self) -> u16
+        ensures { λ r. ⌜ r ≡ decode-number self ⌝ }
+    {
+        self as u16
+    }
+}
+
+impl EncodeRefusal {
+    /// The number of the check.
+    pub fn number(self) -> u16
+        ensures { λ r. ⌜ r ≡ encode-number self ⌝ }
+    {
+        self as u16
+    }
 }

@@ -1,6 +1,7 @@
 //! How a nonce is made from octets, and read back.
 ghost use mathlib.Core.Path.{_≡_};
 ghost use Prim.Native.Nat.{_≤_};
+ghost use lib.ListN.{length};
 ghost use Rattle.std.specs.Options.{mapped};
 ghost use Rattle.wire.specs.Nonces.{nonce-octets, as-nonce};
 use crate::nonce::Nonce;
@@ -21,7 +22,9 @@ impl Nonce {
 
     /// The octets of the nonce.
     pub fn as_slice(&self) -> &[u8]
-        ensures { λ r. ⌜ now r ≡ nonce-octets (now (self .entry)) ⌝ }
+        ensures value { λ r. ⌜ now r ≡ nonce-octets (now (self .entry)) ⌝ }
+        ensures least { λ r. ⌜ 16 ≤ length (now r) ⌝ }
+        ensures most { λ r. ⌜ length (now r) ≤ 32 ⌝ }
     {
         &self.octets[0..self.len]
     }
