@@ -84,11 +84,14 @@ abbrev pub before : List ℕ → Option (List (List ℕ)) → Option (List (List
 before b None = None
 before b (Some bs) = Some (b ∷ bs)
 
+abbrev pub followed : Option Opened → (Opened → Option (List (List ℕ))) → Option (List (List ℕ))
+followed None f = None
+followed (Some o) f = before (o .body) (f o)
+
 -- the bodies of the payloads, where the chain has exactly these types and ends with them
 abbrev pub bodies : List ℕ → ℕ → List ℕ → Option (List (List ℕ))
 bodies [] k s = cond (eqb k 0 && eqb (length s) 0) (Some []) None
-bodies (t ∷ ts) k s =
-    elim (taken t k s) [ None ↦ None | Some o ↦ before (o .body) (bodies ts (o .next) (o .rest)) ]
+bodies (t ∷ ts) k s = followed (taken t k s) (λ o. bodies ts (o .next) (o .rest))
 
 -- the orders of types: an offer, a rekey, one payload alone, none
 abbrev pub offer-order : List ℕ

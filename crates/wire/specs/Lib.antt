@@ -5,6 +5,7 @@ pub mod Payloads
 pub mod Messages
 pub mod Encoding
 pub mod Decoding
+pub mod Exact
 pub mod Texts
 pub mod Chains
 pub mod Readings
