@@ -1,5 +1,6 @@
 pub mod Back
 pub mod Carried
+pub mod Exactly
 pub mod Failures
 pub mod Only
 pub mod Openings

@@ -8,6 +8,7 @@ ghost use Rattle.octets.specs.Numbers.{word, long};
 ghost use Rattle.wire.specs.Nonces.{nonce-long};
 ghost use Rattle.wire.specs.Decoding.{sized, exchange-in, flags-in, header-from, header-in, offer-in, request-in, response-in, informational-in, body-in, decoded};
 ghost use Rattle.wire.specs.Chains.{offered};
+ghost use Rattle.wire.specs.Exact.{One-encoding};
 ghost use Rattle.wire.specs.Readings.{offer-read, request-read, response-read, body-read, message-read};
 use crate::header::Direction;
 use crate::header::Exchange;
@@ -187,6 +188,7 @@ fn body_of(exchange: Exchange, direction: Direction, chain: Chain<'_>) -> Result
 /// The message that these octets are, its nonce a part of them, or the first check that they fail.
 pub fn decode(s: &[u8]) -> Result<Message<&[u8]>, DecodeRefusal>
     ensures value { λ r. ⌜ message-read r ≡ decoded (now (s .entry)) ⌝ }
+    ensures exact { λ _. ⌜ One-encoding ⌝ }
 {
     if !is_sized(s) {
         return Err(DecodeRefusal::Length);

@@ -7,6 +7,7 @@ ghost use lib.Dec.{leb};
 ghost use lib.ListN.{length, drop};
 ghost use Rattle.wire.specs.Nonces.{nonce-octets};
 ghost use Rattle.wire.specs.Encoding.{written, overwritten};
+ghost use Rattle.wire.specs.Exact.{Valid-offer, Valid-request, Valid-failure, Valid-response, Valid-body, Valid};
 ghost use Rattle.wire.specs.Texts.{octets-in};
 ghost use Rattle.wire.specs.Messages.{plain-body, plain, plain-request, plain-response, offer-parts, request-parts, response-parts, parts-of, chain, request-kinds, response-kinds, kinds, sender-flag, octets-of};
 use crate::message::Body;
@@ -30,6 +31,7 @@ fn push_offer(text: &mut Text, spi: u32, nonce: &Nonce)
     requires { ⌜ now text .len ≤ 12 ⌝ }
     ensures octets { λ _. ⌜ octets-in (now (text .exit)) ≡ octets-in (now (text .entry)) ++ chain (offer-parts spi (nonce-octets (now (nonce .entry)))) ⌝ }
     ensures len { λ _. ⌜ now (text .exit) .len ≤ 132 ⌝ }
+    ensures valid { λ _. ⌜ Valid-offer spi (nonce-octets (now (nonce .entry))) ⌝ }
 {
     text.push_payload(40, &sa_body(spi));
     text.push_payload(44, nonce.as_slice());
@@ -41,6 +43,7 @@ fn push_offer(text: &mut Text, spi: u32, nonce: &Nonce)
 fn request_chain(request: &Request<Nonce>) -> Text
     ensures octets { λ r. ⌜ octets-in r ≡ chain (request-parts (plain-request nonce-octets (now (request .entry)))) ⌝ }
     ensures len { λ r. ⌜ r .len ≤ 132 ⌝ }
+    ensures valid { λ _. ⌜ Valid-request (plain-request nonce-octets (now (request .entry))) ⌝ }
 {
     let mut text = Text::new();
     match request {
@@ -60,6 +63,7 @@ fn push_failure(text: &mut Text, failure: Failure)
     requires { ⌜ now text .len ≤ 12 ⌝ }
     ensures octets { λ _. ⌜ octets-in (now (text .exit)) ≡ octets-in (now (text .entry)) ++ chain (response-parts (Response.Failed failure)) ⌝ }
     ensures len { λ _. ⌜ now (text .exit) .len ≤ 132 ⌝ }
+    ensures valid { λ _. ⌜ Valid-failure failure ⌝ }
 {
     match failure {
         Failure::NoProposalChosen => text.push_payload(0, &bare_body(14)),
@@ -73,6 +77,7 @@ fn push_failure(text: &mut Text, failure: Failure)
 fn response_chain(response: &Response<Nonce>) -> Text
     ensures octets { λ r. ⌜ octets-in r ≡ chain (response-parts (plain-response nonce-octets (now (response .entry)))) ⌝ }
     ensures len { λ r. ⌜ r .len ≤ 132 ⌝ }
+    ensures valid { λ _. ⌜ Valid-response (plain-response nonce-octets (now (response .entry))) ⌝ }
 {
     let mut text = Text::new();
     match response {
@@ -88,6 +93,7 @@ fn response_chain(response: &Response<Nonce>) -> Text
 fn chain_of(body: &Body<Nonce>) -> Text
     ensures octets { λ r. ⌜ octets-in r ≡ chain (parts-of (plain-body nonce-octets (now (body .entry)))) ⌝ }
     ensures len { λ r. ⌜ r .len ≤ 132 ⌝ }
+    ensures valid { λ _. ⌜ Valid-body (plain-body nonce-octets (now (body .entry))) ⌝ }
 {
     match body {
         Body::Request(request) => request_chain(request),
@@ -148,7 +154,8 @@ fn sender_flag(sender: Side) -> u8
 
 /// The octets of a message.
 fn text_of(message: &Message<Nonce>) -> Text
-    ensures { λ r. ⌜ octets-in r ≡ octets-of (plain nonce-octets (now (message .entry))) ⌝ }
+    ensures octets { λ r. ⌜ octets-in r ≡ octets-of (plain nonce-octets (now (message .entry))) ⌝ }
+    ensures valid { λ _. ⌜ Valid (plain nonce-octets (now (message .entry))) ⌝ }
 {
     let payloads = chain_of(&message.body);
     let mut text = Text::new();
@@ -167,6 +174,7 @@ impl Message<Nonce> {
     pub fn encode(&self, out: &mut [u8]) -> Result<usize, EncodeRefusal>
         ensures answer { λ r. ⌜ r ≡ written (plain nonce-octets (now (self .entry))) (now (out .entry)) ⌝ }
         ensures buffer { λ _. ⌜ now (out .exit) ≡ overwritten (plain nonce-octets (now (self .entry))) (now (out .entry)) ⌝ }
+        ensures valid { λ _. ⌜ Valid (plain nonce-octets (now (self .entry))) ⌝ }
     {
         let text = text_of(self);
         let octets = text.as_slice();

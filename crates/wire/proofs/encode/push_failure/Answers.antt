@@ -15,6 +15,7 @@ returns-in-NoProposalChosen c =
           last-pushed (octets-in (c .args .text .now)) (octets-in (c .push-payload .last .self)) _
           (part 41 (failure-body (c .args .failure))) h (c .push-payload .ensures .octets);
       len = omega arith;
+      valid = rw (c .in-NoProposalChosen .is) tt;
     }
 
 pub returns-in-NoAdditionalSas : need.returns-in-NoAdditionalSas
@@ -26,6 +27,7 @@ returns-in-NoAdditionalSas c =
           last-pushed (octets-in (c .args .text .now)) (octets-in (c .push-payload-in-NoAdditionalSas .last .self)) _
           (part 41 (failure-body (c .args .failure))) h (c .push-payload-in-NoAdditionalSas .ensures .octets);
       len = omega arith;
+      valid = rw (c .in-NoAdditionalSas .is) tt;
     }
 
 pub returns-in-TemporaryFailure : need.returns-in-TemporaryFailure
@@ -37,4 +39,5 @@ returns-in-TemporaryFailure c =
           last-pushed (octets-in (c .args .text .now)) (octets-in (c .push-payload-in-TemporaryFailure .last .self)) _
           (part 41 (failure-body (c .args .failure))) h (c .push-payload-in-TemporaryFailure .ensures .octets);
       len = omega arith;
+      valid = rw (c .in-TemporaryFailure .is) tt;
     }

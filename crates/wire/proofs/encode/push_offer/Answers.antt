@@ -35,4 +35,9 @@ returns c =
           (payload-pushed v w x _ tsi (tsr ∷ []) (c .ts-body .ensures) (c .push-payload-3 .ensures .octets)
           (last-pushed w x _ tsr (c .ts-body-2 .ensures) (c .push-payload-4 .ensures .octets))));
       len = omega arith;
+      valid = (
+        omega arith,
+        rw (c .as-slice .ensures .value) at (c .as-slice .ensures .least),
+        rw (c .as-slice .ensures .value) at (c .as-slice .ensures .most),
+      );
     }

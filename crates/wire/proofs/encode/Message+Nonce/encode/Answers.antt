@@ -12,18 +12,19 @@ returns-then-out-len c =
     let m = plain nonce-octets (c .args .self .now) in
     let out = c .args .out .now in
     let s = c .as-slice-octets .result .now in
-    let e = c .as-slice-octets .ensures ∙ c .text-of-text .ensures in
+    let e = c .as-slice-octets .ensures ∙ c .text-of-text .ensures .octets in
     let short : length out < length s = omega arith in
-    record { answer = refused-answer m out s e short; buffer = refused-buffer m out s e short; }
+    record { answer = refused-answer m out s e short; buffer = refused-buffer m out s e short; valid = c .text-of-text .ensures .valid; }
 
 pub returns : need.returns
 returns c =
     let m = plain nonce-octets (c .args .self .now) in
     let out = c .args .out .now in
     let s = c .as-slice-octets .result .now in
-    let e = c .as-slice-octets .ensures ∙ c .text-of-text .ensures in
+    let e = c .as-slice-octets .ensures ∙ c .text-of-text .ensures .octets in
     let room : length s ≤ length out = omega arith in
     record {
       answer = written-answer m out s e room;
       buffer = written-buffer m out s e room (c .copy-from-slice .last .self) (c .copy-from-slice .ensures .after);
+      valid = c .text-of-text .ensures .valid;
     }
