@@ -2,6 +2,7 @@ pub mod Back
 pub mod Carried
 pub mod Exactly
 pub mod Failures
+pub mod Losing
 pub mod Only
 pub mod Openings
 pub mod Padded

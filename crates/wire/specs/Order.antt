@@ -2,6 +2,7 @@
 use mathlib.Core.Path.{_≡_}
 use mathlib.Core.Bool.{Bool, true, false, cond}
 use mathlib.Core.List.{List, [], _∷_}
+use mathlib.Core.Logic.{_⊎_}
 use Prim.Native.Nat.{ℕ}
 use denote.Ref.{now}
 use lib.Dec.{ltb, eqb}
@@ -51,3 +52,20 @@ lowest-in a b =
 
 abbrev pub loser-in : Exchanged → Exchanged → Side
 loser-in a b = loser-by (lowest-in a b)
+
+-- Who loses, in other words: none of the four nonces is lower than one of the loser's exchange, and where B loses, no nonce
+-- of A's exchange is such a lowest one.
+abbrev pub None-lower : (n ia ra ib rb : List ℕ) → Type 0
+None-lower n ia ra ib rb =
+    (lower-than ia n ≡ false) × (lower-than ra n ≡ false) × (lower-than ib n ≡ false) × (lower-than rb n ≡ false)
+
+abbrev pub Loses : Side → (ia ra ib rb : List ℕ) → Type 0
+Loses A ia ra ib rb = None-lower ia ia ra ib rb ⊎ None-lower ra ia ra ib rb
+Loses B ia ra ib rb =
+    (None-lower ib ia ra ib rb ⊎ None-lower rb ia ra ib rb) × (None-lower ia ia ra ib rb → ⊥)
+    × (None-lower ra ia ra ib rb → ⊥)
+
+abbrev pub Loses-in : Side → Exchanged → Exchanged → Type 0
+Loses-in s a b =
+    Loses s (nonce-octets (a .initiator)) (nonce-octets (a .responder)) (nonce-octets (b .initiator))
+    (nonce-octets (b .responder))

@@ -1,7 +1,7 @@
 //! How nonces are compared.
 ghost use mathlib.Core.Path.{_≡_};
 ghost use Rattle.wire.specs.Nonces.{nonce-octets};
-ghost use Rattle.wire.specs.Order.{lower-than, lower-of, named, lower-named, lowest-in, loser-in};
+ghost use Rattle.wire.specs.Order.{lower-than, lower-of, named, lower-named, lowest-in, loser-in, Loses-in};
 use crate::nonce::Nonce;
 use crate::order::Exchanged;
 use crate::order::Lowest;
@@ -49,7 +49,8 @@ fn lowest<'a>(a: &'a Exchanged, b: &'a Exchanged) -> Lowest
 /// Whose new SA loses, where A and B rekeyed one SA at once with these nonces: the one whose exchange has the lowest of
 /// the four, or A's where both have it.
 pub fn loser(a: &Exchanged, b: &Exchanged) -> Side
-    ensures { λ r. ⌜ r ≡ loser-in (now (a .entry)) (now (b .entry)) ⌝ }
+    ensures value { λ r. ⌜ r ≡ loser-in (now (a .entry)) (now (b .entry)) ⌝ }
+    ensures lowest { λ r. ⌜ Loses-in r (now (a .entry)) (now (b .entry)) ⌝ }
 {
     match lowest(a, b) {
         Lowest::InitiatorOfA | Lowest::ResponderOfA => Side::A,
