@@ -8,3 +8,4 @@ pub mod Openings
 pub mod Padded
 pub mod Pushes
 pub mod Writings
+pub mod Worked

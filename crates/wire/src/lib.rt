@@ -4,6 +4,7 @@ pub mod encode;
 mod header;
 mod table;
 mod text;
+pub mod lines;
 pub mod message;
 pub mod nonce;
 pub mod order;
