@@ -2,7 +2,6 @@
 ghost use mathlib.Core.Path.{_≡_};
 ghost use Prim.Native.Nat.{ℕ, _+_, _≤_};
 ghost use lib.ListN.{length};
-ghost use Rattle.std.specs.shelf.Text.{sameBytes};
 ghost use Rattle.octets.specs.Numbers.{half, word, long, within};
 
 /// The number in the two octets from place `i` on, or nothing where the row ends before.
@@ -42,11 +41,4 @@ pub fn u64_at(s: &[u8], i: usize) -> Option<u64>
         s[i + 6],
         s[i + 7],
     ]))
-}
-
-/// Whether two rows have the same octets.
-pub fn same(a: &[u8], b: &[u8]) -> bool
-    ensures { λ r. ⌜ r ≡ sameBytes (now (a .entry)) (now (b .entry)) ⌝ }
-{
-    a == b
 }

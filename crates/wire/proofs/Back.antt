@@ -16,7 +16,7 @@ use Rattle.std.specs.declared.result.Result.the-variants.{Ok, Err}
 use Rattle.std.specs.shelf.Text.{sameBytes}
 use Rattle.octets.specs.Numbers.{be16, be32, be64, half, word, long}
 use Rattle.octets.proofs.Words.{half-be16, word-be32, long-be64}
-use Rattle.wire.specs.Nonces.{nonce-long}
+use Rattle.nonce.specs.Nonces.{nonce-long}
 use Rattle.wire.specs.Payloads.{sa-body, ts-body, rekey-body, failure-body, delete-body, carried, sa-in, rekeyed-in, deleted-in, not-found-in, failure-in}
 use Rattle.wire.specs.Messages.{Part, part, offer-parts, request-parts, response-parts, parts-of, first-type, chain, exchange-of, sender-flag, response-flag, octets-of}
 use Rattle.wire.specs.Decoding.{sized, exchange-in, flags-in, header-in, opens, opened, taken, bodies, offer-order, rekey-order, offer-in, request-in, response-in, informational-in, body-in, decoded}
@@ -34,8 +34,8 @@ use Rattle.wire.specs.declared.header.Exchange.{Exchange}
 use Rattle.wire.specs.declared.header.Exchange.the-variants.{CreateChildSa, Informational}
 use Rattle.wire.specs.declared.header.Direction.{Direction}
 use Rattle.wire.specs.declared.header.Direction.the-variants.{Asking, Answering}
-use Rattle.wire.specs.declared.side.Side.{Side}
-use Rattle.wire.specs.declared.side.Side.the-variants.{A, B}
+use Rattle.nonce.specs.declared.side.Side.{Side}
+use Rattle.nonce.specs.declared.side.Side.the-variants.{A, B}
 use Rattle.wire.specs.declared.message.Failure.{Failure}
 use Rattle.wire.specs.declared.message.Failure.the-variants.{NoProposalChosen, NoAdditionalSas, TemporaryFailure, ChildSaNotFound}
 

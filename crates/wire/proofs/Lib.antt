@@ -2,10 +2,8 @@ pub mod Back
 pub mod Carried
 pub mod Exactly
 pub mod Failures
-pub mod Losing
 pub mod Only
 pub mod Openings
-pub mod Padded
 pub mod Pushes
 pub mod Writings
 pub mod Worked

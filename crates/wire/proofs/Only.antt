@@ -19,7 +19,7 @@ use Rattle.std.specs.declared.result.Result.the-variants.{Ok, Err}
 use Rattle.std.specs.shelf.Text.{sameBytes}
 use Rattle.octets.specs.Numbers.{be16, be32, be64, half, word, long}
 use Rattle.octets.proofs.Words.{be16-half, be32-word, be64-long}
-use Rattle.wire.specs.Nonces.{nonce-long}
+use Rattle.nonce.specs.Nonces.{nonce-long}
 use Rattle.wire.specs.Payloads.{sa-body, ts-body, rekey-body, failure-body, delete-body, carried, sa-in, rekeyed-in, deleted-in, not-found-in, failure-in}
 use Rattle.wire.specs.Messages.{Part, part, offer-parts, request-parts, response-parts, parts-of, first-type, chain, request-exchange, response-exchange, exchange-of, sender-flag, response-flag, octets-of}
 use Rattle.wire.specs.Decoding.{sized, exchange-in, flags-in, header-from, header-in, opens, opened, Opened, taken, before, followed, bodies, offer-order, rekey-order, sa-then, offer-in, as-create, as-rekey, as-new, as-failed, rekey-from, create-or, failed-from, new-or, as-deleted, deleted-from, empty-or, informs-request, informs-response, asks, answers, request-in, response-in, informational-in, body-in, with-body, with-header, decoded}
@@ -41,8 +41,8 @@ use Rattle.wire.specs.declared.header.Exchange.{Exchange}
 use Rattle.wire.specs.declared.header.Exchange.the-variants.{CreateChildSa, Informational}
 use Rattle.wire.specs.declared.header.Direction.{Direction}
 use Rattle.wire.specs.declared.header.Direction.the-variants.{Asking, Answering}
-use Rattle.wire.specs.declared.side.Side.{Side}
-use Rattle.wire.specs.declared.side.Side.the-variants.{A, B}
+use Rattle.nonce.specs.declared.side.Side.{Side}
+use Rattle.nonce.specs.declared.side.Side.the-variants.{A, B}
 
 -- parts of octets are octets
 octets-drop : (n : ℕ) (s : List ℕ) → Octets s → Octets (drop n s)

@@ -1,7 +1,7 @@
 -- Each worked line, computed.
 use mathlib.Core.Path.{refl}
 use Rattle.wire.specs.Lines.{lines, All-hold}
-use Rattle.wire.specs.Order.{lowest-of}
+use Rattle.nonce.specs.Order.{lowest-of}
 use Rattle.wire.specs.Payloads.{sa-body, ts-body, delete-body, carried, sa-in}
 use Rattle.wire.specs.Decoding.{header-in, opened, offer-in, request-in, decoded}
 

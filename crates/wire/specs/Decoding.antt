@@ -10,7 +10,7 @@ use Rattle.std.specs.declared.result.Result.{Result}
 use Rattle.std.specs.declared.result.Result.the-variants.{Ok, Err}
 use Rattle.std.specs.shelf.Text.{sameBytes}
 use Rattle.octets.specs.Numbers.{half, word, long}
-use Rattle.wire.specs.Nonces.{nonce-long}
+use Rattle.nonce.specs.Nonces.{nonce-long}
 use Rattle.wire.specs.Payloads.{ts-body, sa-in, rekeyed-in, deleted-in, failure-in}
 use Rattle.wire.specs.declared.message.Message.{Message}
 use Rattle.wire.specs.declared.message.Body.{Body}
@@ -22,8 +22,8 @@ use Rattle.wire.specs.declared.message.Response.the-variants as response
 use Rattle.wire.specs.declared.message.Failure.{Failure}
 use Rattle.wire.specs.declared.message.DecodeRefusal.{DecodeRefusal}
 use Rattle.wire.specs.declared.message.DecodeRefusal.the-variants as refusal
-use Rattle.wire.specs.declared.side.Side.{Side}
-use Rattle.wire.specs.declared.side.Side.the-variants.{A, B}
+use Rattle.nonce.specs.declared.side.Side.{Side}
+use Rattle.nonce.specs.declared.side.Side.the-variants.{A, B}
 use Rattle.wire.specs.declared.header.Header.{Header}
 use Rattle.wire.specs.declared.header.Exchange.{Exchange}
 use Rattle.wire.specs.declared.header.Exchange.the-variants.{CreateChildSa, Informational}

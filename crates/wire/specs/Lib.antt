@@ -1,5 +1,3 @@
-pub mod Nonces
-pub mod Order
 pub mod Refusals
 pub mod Payloads
 pub mod Messages

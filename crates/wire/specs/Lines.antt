@@ -8,7 +8,7 @@ use Rattle.std.specs.declared.option.Option.{Option}
 use Rattle.std.specs.declared.option.Option.the-variants.{Some, None}
 use Rattle.std.specs.declared.result.Result.{Result}
 use Rattle.std.specs.declared.result.Result.the-variants.{Ok, Err}
-use Rattle.wire.specs.Order.{lower-than, lowest-of, loser-by}
+use Rattle.nonce.specs.Order.{lower-than, lowest-of, loser-by}
 use Rattle.wire.specs.Messages.{octets-of}
 use Rattle.wire.specs.Decoding.{decoded}
 use Rattle.wire.specs.Refusals.{decode-number}
@@ -17,8 +17,8 @@ use Rattle.wire.specs.declared.message.Body.the-variants as body
 use Rattle.wire.specs.declared.message.Request.{Request}
 use Rattle.wire.specs.declared.message.Request.the-variants as request
 use Rattle.wire.specs.declared.message.DecodeRefusal.{DecodeRefusal}
-use Rattle.wire.specs.declared.side.Side.{Side}
-use Rattle.wire.specs.declared.side.Side.the-variants.{A, B}
+use Rattle.nonce.specs.declared.side.Side.{Side}
+use Rattle.nonce.specs.declared.side.Side.the-variants.{A, B}
 
 -- What a line says. Messages are given for every pair of IKE SPIs.
 pub data Line : Type 0 where

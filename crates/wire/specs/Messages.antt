@@ -11,8 +11,8 @@ use Rattle.wire.specs.declared.message.Request.{Request}
 use Rattle.wire.specs.declared.message.Request.the-variants as request
 use Rattle.wire.specs.declared.message.Response.{Response}
 use Rattle.wire.specs.declared.message.Response.the-variants as response
-use Rattle.wire.specs.declared.side.Side.{Side}
-use Rattle.wire.specs.declared.side.Side.the-variants.{A, B}
+use Rattle.nonce.specs.declared.side.Side.{Side}
+use Rattle.nonce.specs.declared.side.Side.the-variants.{A, B}
 
 -- The same message with its nonce as octets, by f from how it is held.
 module _ {N : Type 0} (f : N → List ℕ) where

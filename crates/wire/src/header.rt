@@ -1,5 +1,5 @@
 //! The header of a message.
-use crate::side::Side;
+use nonce::side::Side;
 
 /// What a header says, with the type of the first payload.
 #[derive(Clone, Copy)]

@@ -1,4 +1,4 @@
-//! Nonces, their order, and the messages about Child SAs as octets.
+//! The messages about Child SAs, and their octets.
 pub mod decode;
 pub mod encode;
 mod header;
@@ -6,7 +6,4 @@ mod table;
 mod text;
 pub mod lines;
 pub mod message;
-pub mod nonce;
-pub mod order;
 pub mod payload;
-pub mod side;

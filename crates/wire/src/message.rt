@@ -1,7 +1,7 @@
 //! What the messages about Child SAs say.
 ghost use mathlib.Core.Path.{_≡_};
 ghost use Rattle.wire.specs.Refusals.{decode-number, encode-number};
-use crate::side::Side;
+use nonce::side::Side;
 
 /// A message of one end to the other. `N` is how its nonce is held: as a part of the datagram
 /// that it came in, or in a place of its own.

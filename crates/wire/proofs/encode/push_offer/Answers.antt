@@ -1,7 +1,7 @@
 use mathlib.Core.List.{List, [], _∷_}
 use native.Mathlib.Omega.{arith}
 use Rattle.wire.specs.Messages.{part}
-use Rattle.wire.specs.Nonces.{nonce-octets}
+use Rattle.nonce.specs.Nonces.{nonce-octets}
 use Rattle.wire.specs.Payloads.{sa-body, ts-body}
 use Rattle.wire.specs.Texts.{octets-in}
 use Rattle.wire.proofs.Pushes.{payload-pushed, last-pushed}

@@ -3,7 +3,7 @@ use Prim.Native.Nat.{_<_, _≤_}
 use native.Mathlib.Omega.{arith}
 use lib.ListN.{length}
 use Rattle.wire.specs.Messages.{plain}
-use Rattle.wire.specs.Nonces.{nonce-octets}
+use Rattle.nonce.specs.Nonces.{nonce-octets}
 use Rattle.wire.proofs.Writings.{refused-answer, refused-buffer, written-answer, written-buffer}
 use Rattle.wire.proofs.encode.Message+Nonce.encode.Needs as need
 

@@ -1,10 +1,10 @@
 use borrow.Author.Needs.{needs}
 use mathlib.Core.Path.{_≡_, sym, subst}
-use Rattle.wire.specs.Order.{loser-in, Loses-in}
-use Rattle.wire.specs.Nonces.{nonce-octets}
-use Rattle.wire.specs.declared.side.Side.the-variants.{A, B}
-use Rattle.wire.proofs.Losing.{loses}
-use Rattle.wire.proofs.order.compare.loser.Needs as need
+use Rattle.nonce.specs.Order.{loser-in, Loses-in}
+use Rattle.nonce.specs.Nonces.{nonce-octets}
+use Rattle.nonce.specs.declared.side.Side.the-variants.{A, B}
+use Rattle.nonce.proofs.Losing.{loses}
+use Rattle.nonce.proofs.order.compare.loser.Needs as need
 
 pub returns-in-InitiatorOfA : need.returns-in-InitiatorOfA
 returns-in-InitiatorOfA c =

@@ -1,8 +1,8 @@
 //! How nonces are compared.
 ghost use mathlib.Core.Path.{_≡_};
-ghost use Rattle.wire.specs.Nonces.{nonce-octets};
-ghost use Rattle.wire.specs.Order.{lower-than, lower-of, named, lower-named, lowest-in, loser-in, Loses-in};
-use crate::nonce::Nonce;
+ghost use Rattle.nonce.specs.Nonces.{nonce-octets};
+ghost use Rattle.nonce.specs.Order.{lower-than, lower-of, named, lower-named, lowest-in, loser-in, Loses-in};
+use crate::Nonce;
 use crate::order::Exchanged;
 use crate::order::Lowest;
 use crate::order::Named;

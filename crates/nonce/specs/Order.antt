@@ -6,13 +6,13 @@ use mathlib.Core.Logic.{_⊎_}
 use Prim.Native.Nat.{ℕ}
 use denote.Ref.{now}
 use lib.Dec.{ltb, eqb}
-use Rattle.wire.specs.Nonces.{nonce-octets}
-use Rattle.wire.specs.declared.order.Exchanged.{Exchanged}
-use Rattle.wire.specs.declared.order.Lowest.{Lowest}
-use Rattle.wire.specs.declared.order.Lowest.the-variants.{InitiatorOfA, ResponderOfA, InitiatorOfB, ResponderOfB}
-use Rattle.wire.specs.declared.order.Named.{Named}
-use Rattle.wire.specs.declared.side.Side.{Side}
-use Rattle.wire.specs.declared.side.Side.the-variants.{A, B}
+use Rattle.nonce.specs.Nonces.{nonce-octets}
+use Rattle.nonce.specs.declared.order.Exchanged.{Exchanged}
+use Rattle.nonce.specs.declared.order.Lowest.{Lowest}
+use Rattle.nonce.specs.declared.order.Lowest.the-variants.{InitiatorOfA, ResponderOfA, InitiatorOfB, ResponderOfB}
+use Rattle.nonce.specs.declared.order.Named.{Named}
+use Rattle.nonce.specs.declared.side.Side.{Side}
+use Rattle.nonce.specs.declared.side.Side.the-variants.{A, B}
 
 -- Whether one nonce is lower than another: from the first octet on, where both have one and the two are equal, the next
 -- decides; where they differ, the lower octet; where one nonce ends, it is the lower.

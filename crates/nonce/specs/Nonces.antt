@@ -6,7 +6,7 @@ use lib.Dec.{leb}
 use lib.ListN.{length, take}
 use Rattle.std.specs.declared.option.Option.{Option}
 use Rattle.std.specs.declared.option.Option.the-variants.{Some, None}
-use Rattle.wire.specs.declared.nonce.Nonce.{Nonce}
+use Rattle.nonce.specs.declared.Nonce.{Nonce}
 
 -- the octets of a nonce
 abbrev pub nonce-octets : Nonce → List ℕ

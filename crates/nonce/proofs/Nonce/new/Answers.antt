@@ -7,9 +7,9 @@ use Prim.Native.Nat.{ℕ, _≤_}
 use lib.ListN.{length}
 use Rattle.std.proofs.shelf.Tests.{le-leb, cond-true, and-from}
 use Rattle.std.specs.declared.option.Option.the-variants.{Some, None}
-use Rattle.wire.specs.Nonces.{nonce-long, as-nonce}
-use Rattle.wire.proofs.Padded.{zeros-behind, octets-in-front}
-use Rattle.wire.proofs.nonce.Nonce.new.Needs as need
+use Rattle.nonce.specs.Nonces.{nonce-long, as-nonce}
+use Rattle.nonce.proofs.Padded.{zeros-behind, octets-in-front}
+use Rattle.nonce.proofs.Nonce.new.Needs as need
 
 pub ghost-result : need.ghost-result
 ghost-result c = (

@@ -3,8 +3,8 @@ ghost use mathlib.Core.Path.{_≡_};
 ghost use Prim.Native.Nat.{_≤_};
 ghost use lib.ListN.{length};
 ghost use Rattle.std.specs.Options.{mapped};
-ghost use Rattle.wire.specs.Nonces.{nonce-octets, as-nonce};
-use crate::nonce::Nonce;
+ghost use Rattle.nonce.specs.Nonces.{nonce-octets, as-nonce};
+use crate::Nonce;
 
 impl Nonce {
     /// The nonce of these octets, or nothing where they are not 16 to 32.

@@ -1,9 +1,11 @@
-//! Nonces: 16 to 32 octets.
+//! Nonces: 16 to 32 octets, their order, and which of two colliding SAs loses.
 ghost use mathlib.Core.Path.{_≡_};
 ghost use Prim.Native.Nat.{_-_, _≤_};
 ghost use lib.ListN.{drop, replicate};
 
 pub mod methods;
+pub mod order;
+pub mod side;
 
 /// A nonce of 16 to 32 octets. The octets behind its length are zero.
 #[derive(Clone, Copy)]

@@ -1,5 +1,5 @@
 //! The order of nonces, and which of two colliding SAs loses.
-use crate::nonce::Nonce;
+use crate::Nonce;
 
 pub mod compare;
 

@@ -4,8 +4,8 @@ use native.Mathlib.Omega.{arith}
 use Rattle.std.specs.Orderings.{Ranked, isLt}
 use Rattle.std.proofs.shelf.Orders.{same-from-lex-tested}
 use Rattle.std.proofs.shelf.Ways.{tells}
-use Rattle.wire.specs.Order.{lower-than}
-use Rattle.wire.proofs.order.compare.precedes.Needs as need
+use Rattle.nonce.specs.Order.{lower-than}
+use Rattle.nonce.proofs.order.compare.precedes.Needs as need
 
 pub returns : need.returns
 returns c =

@@ -8,10 +8,10 @@ use native.Mathlib.Omega.{arith}
 use lib.Dec.{ltb, eqb}
 use Rattle.std.proofs.shelf.Ways.{tells}
 use Rattle.std.proofs.shelf.Tests.{true≢false, both-ways, cases-bool}
-use Rattle.wire.specs.Order.{lower-than, lowest-of, loser-by, None-lower, Loses}
-use Rattle.wire.specs.declared.order.Lowest.the-variants.{InitiatorOfA, ResponderOfA, InitiatorOfB, ResponderOfB}
-use Rattle.wire.specs.declared.side.Side.{Side}
-use Rattle.wire.specs.declared.side.Side.the-variants.{A, B}
+use Rattle.nonce.specs.Order.{lower-than, lowest-of, loser-by, None-lower, Loses}
+use Rattle.nonce.specs.declared.order.Lowest.the-variants.{InitiatorOfA, ResponderOfA, InitiatorOfB, ResponderOfB}
+use Rattle.nonce.specs.declared.side.Side.{Side}
+use Rattle.nonce.specs.declared.side.Side.the-variants.{A, B}
 
 -- none is lower than itself
 pub not-self : (x : List ℕ) → lower-than x x ≡ false

@@ -1,0 +1,2 @@
+pub mod Nonces
+pub mod Order
