@@ -49,7 +49,6 @@ module _ (ia ra ib rb : List ℕ) where
   loser-is :
       (p q r : Bool) → lower-than ra ia ≡ p → lower-than rb ib ≡ q → lower-than (cond q rb ib) (cond p ra ia) ≡ r →
       loser-by (lowest-of ia ra ib rb) ≡ cond r B A
-  unfolding lowest-of
   loser-is true true true e f g = let h : lowest-of ia ra ib rb ≡ ResponderOfB = cc in ap loser-by h
   loser-is true true false e f g = let h : lowest-of ia ra ib rb ≡ ResponderOfA = cc in ap loser-by h
   loser-is true false true e f g = let h : lowest-of ia ra ib rb ≡ InitiatorOfB = cc in ap loser-by h

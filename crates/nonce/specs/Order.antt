@@ -30,7 +30,7 @@ lower-of xs ys = cond (lower-than ys xs) ys xs
 abbrev pub lower-named : Lowest × List ℕ → Lowest × List ℕ → Lowest × List ℕ
 lower-named p q = cond (lower-than (q .1) (p .1)) q p
 
-unfoldable pub lowest-of : (ia ra ib rb : List ℕ) → Lowest
+abbrev pub lowest-of : (ia ra ib rb : List ℕ) → Lowest
 lowest-of ia ra ib rb =
     lower-named (lower-named (InitiatorOfA, ia) (ResponderOfA, ra)) (lower-named (InitiatorOfB, ib) (ResponderOfB, rb)) .0
 

@@ -1,7 +1,9 @@
-//! Numbers of two, four and eight octets in a row of octets, the most significant octet first.
+//! Rows of octets: whether two are the same, and the numbers of two, four and eight octets in one, the most significant
+//! octet first.
 ghost use mathlib.Core.Path.{_≡_};
 ghost use Prim.Native.Nat.{ℕ, _+_, _≤_};
 ghost use lib.ListN.{length};
+ghost use Rattle.std.specs.shelf.Text.{sameBytes};
 ghost use Rattle.octets.specs.Numbers.{half, word, long, within};
 
 /// The number in the two octets from place `i` on, or nothing where the row ends before.
@@ -41,4 +43,17 @@ pub fn u64_at(s: &[u8], i: usize) -> Option<u64>
         s[i + 6],
         s[i + 7],
     ]))
+}
+
+/// Whether two rows have the same octets.
+pub fn same(a: &[u8], b: &[u8]) -> bool
+    ensures { λ r. ⌜ r ≡ sameBytes (now (a .entry)) (now (b .entry)) ⌝ }
+{
+    equal(a, b)
+}
+
+fn equal(a: &[u8], b: &[u8]) -> bool
+    ensures { λ r. ⌜ r ≡ sameBytes (now (a .entry)) (now (b .entry)) ⌝ }
+{
+    a == b
 }

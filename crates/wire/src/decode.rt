@@ -30,8 +30,8 @@ use crate::table::deleted_in;
 use crate::table::failure_in;
 use crate::table::rekeyed_in;
 use crate::table::sa_in;
-use crate::table::same;
 use crate::table::ts_body;
+use octets::same;
 use octets::u32_at;
 use octets::u64_at;
 

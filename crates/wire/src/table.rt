@@ -6,6 +6,7 @@ ghost use Rattle.std.specs.declared.option.Option.the-variants.{Some, None};
 ghost use Rattle.std.specs.shelf.Text.{sameBytes};
 ghost use Rattle.wire.specs.Payloads.{sa-body, ts-body, rekey-body, failure-body, delete-body, sa-in, rekeyed-in, deleted-in, not-found-in, failure-in};
 use crate::message::Failure;
+use octets::same;
 use octets::u32_at;
 
 /// The body of an SA payload: one ESP proposal with the sender's new SPI.
@@ -58,13 +59,6 @@ pub(crate) fn delete_body(spi: u32) -> [u8; 8]
 {
     let [a, b, c, d] = spi.to_be_bytes();
     [0x03, 0x04, 0x00, 0x01, a, b, c, d]
-}
-
-/// Whether two rows have the same octets.
-pub(crate) fn same(a: &[u8], b: &[u8]) -> bool
-    ensures { λ r. ⌜ r ≡ sameBytes (now (a .entry)) (now (b .entry)) ⌝ }
-{
-    a == b
 }
 
 /// The number, where the body is the one that a table has for it.

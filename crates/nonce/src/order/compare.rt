@@ -1,7 +1,7 @@
 //! How nonces are compared.
 ghost use mathlib.Core.Path.{_≡_};
 ghost use Rattle.nonce.specs.Nonces.{nonce-octets};
-ghost use Rattle.nonce.specs.Order.{lower-than, lower-of, named, lower-named, lowest-in, loser-in, Loses-in};
+ghost use Rattle.nonce.specs.Order.{lower-than, lower-of, named, lower-named, lowest-in, loser-by, loser-in, Loses-in};
 use crate::Nonce;
 use crate::order::Exchanged;
 use crate::order::Lowest;
@@ -46,14 +46,21 @@ fn lowest<'a>(a: &'a Exchanged, b: &'a Exchanged) -> Lowest
     lower_named(of_a, of_b).name
 }
 
+/// Whose exchange this nonce is of.
+fn exchange_of(nonce: Lowest) -> Side
+    ensures { λ r. ⌜ r ≡ loser-by nonce ⌝ }
+{
+    match nonce {
+        Lowest::InitiatorOfA | Lowest::ResponderOfA => Side::A,
+        Lowest::InitiatorOfB | Lowest::ResponderOfB => Side::B,
+    }
+}
+
 /// Whose new SA loses, where A and B rekeyed one SA at once with these nonces: the one whose exchange has the lowest of
 /// the four, or A's where both have it.
 pub fn loser(a: &Exchanged, b: &Exchanged) -> Side
     ensures value { λ r. ⌜ r ≡ loser-in (now (a .entry)) (now (b .entry)) ⌝ }
     ensures lowest { λ r. ⌜ Loses-in r (now (a .entry)) (now (b .entry)) ⌝ }
 {
-    match lowest(a, b) {
-        Lowest::InitiatorOfA | Lowest::ResponderOfA => Side::A,
-        Lowest::InitiatorOfB | Lowest::ResponderOfB => Side::B,
-    }
+    exchange_of(lowest(a, b))
 }

@@ -1,6 +1,6 @@
 use Rattle.std.proofs.shelf.Equals.{matches-decides, sameBytes-decides}
 use Rattle.std.proofs.shelf.Ways.{same-from-decides}
-use Rattle.wire.proofs.table.same.Needs as need
+use Rattle.octets.proofs.equal.Needs as need
 
 pub returns : need.returns
 returns c =
