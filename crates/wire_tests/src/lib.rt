@@ -12,20 +12,21 @@ mod tests {
     use std::test::*;
     use wire::decode::decode;
     use wire::message::Body;
-    use wire::message::DecodeRefusal;
-    use wire::message::EncodeRefusal;
     use wire::message::Message;
     use wire::message::Request;
-    use wire::message::Response;
 
-    fn sixteen(x: u8) -> Result<Nonce, Fail> {
-        Ok(Nonce::new(&[x; 16]).ok_or("no nonce")?)
+    fn sixteen(x: u8) -> Option<Nonce> {
+        Nonce::new(&[x; 16])
     }
 
-    fn rekey(x: u8) -> Result<Message<Nonce>, Fail> {
+    fn rekey(x: u8) -> Option<Message<Nonce>> {
         let nonce = sixteen(x)?;
         let body = Body::Request(Request::Rekey { old: 1000, spi: 1001, nonce });
-        Ok(Message { initiator: 1, responder: 2, sender: Side::B, id: 7, body })
+        Some(Message { initiator: 1, responder: 2, sender: Side::B, id: 7, body })
+    }
+
+    fn exchanged(initiator: u8, responder: u8) -> Option<Exchanged> {
+        Some(Exchanged { initiator: sixteen(initiator)?, responder: sixteen(responder)? })
     }
 
     // A's Delete of 1000 with the Message ID 5.
@@ -64,8 +65,11 @@ mod tests {
 
     #[test]
     fn writes_and_reads_back() -> Result<(), Fail> {
+        let Some(written) = rekey(0x44) else {
+            return Err(Fail::new("no nonce"));
+        };
         let mut out = [0xEE; 160];
-        let Ok(len) = rekey(0x44)?.encode(&mut out) else {
+        let Ok(len) = written.encode(&mut out) else {
             return Err(Fail::new("refused"));
         };
         check(len == 144)?;
@@ -75,7 +79,7 @@ mod tests {
                 Body::Request(Request::Rekey { old, spi, nonce }) => {
                     check_eq(old, 1000)?;
                     check_eq(spi, 1001)?;
-                    check(nonce == sixteen(0x44)?.as_slice())
+                    check(nonce == &[0x44; 16])
                 }
                 _ => Err(Fail::new("another message")),
             },
@@ -85,8 +89,11 @@ mod tests {
 
     #[test]
     fn a_short_buffer_stays() -> Result<(), Fail> {
+        let Some(message) = rekey(0x44) else {
+            return Err(Fail::new("no nonce"));
+        };
         let mut out = [0xEE; 143];
-        match rekey(0x44)?.encode(&mut out) {
+        match message.encode(&mut out) {
             Ok(_) => Err(Fail::new("written")),
             Err(refusal) => {
                 check_eq(refusal.number(), 45)?;
@@ -97,11 +104,23 @@ mod tests {
 
     #[test]
     fn orders_nonces() -> Result<(), Fail> {
-        let short = sixteen(0x11)?;
-        let long = Nonce::new(&[0x11; 17]).ok_or("no nonce")?;
-        check(lower(&long, &short) == short.as_slice())?;
-        let a = Exchanged { initiator: sixteen(0x55)?, responder: sixteen(0x77)? };
-        let b = Exchanged { initiator: sixteen(0x66)?, responder: sixteen(0x44)? };
+        let Some(short) = sixteen(0x11) else {
+            return Err(Fail::new("no nonce"));
+        };
+        let Some(long) = Nonce::new(&[0x11; 17]) else {
+            return Err(Fail::new("no nonce"));
+        };
+        check(lower(&long, &short) == &[0x11; 16])
+    }
+
+    #[test]
+    fn finds_the_loser() -> Result<(), Fail> {
+        let Some(a) = exchanged(0x55, 0x77) else {
+            return Err(Fail::new("no nonce"));
+        };
+        let Some(b) = exchanged(0x66, 0x44) else {
+            return Err(Fail::new("no nonce"));
+        };
         check_eq(loser(&a, &b), Side::B)?;
         check_eq(loser(&b, &a), Side::A)?;
         check_eq(loser(&a, &a), Side::A)
