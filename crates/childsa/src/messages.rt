@@ -13,6 +13,10 @@ use crate::words::octets_of;
 use crate::wrong::Stop;
 use crate::wrong::StopFromAlloc;
 use crate::wrong::Wrong;
+use nonce::Nonce;
+use nonce::order::Exchanged;
+use nonce::order::compare;
+use nonce::side::Side;
 use std::alloc::AllocError;
 use std::alloc::Global;
 use wire::message::Body;
@@ -20,10 +24,6 @@ use wire::message::Failure;
 use wire::message::Message;
 use wire::message::Request;
 use wire::message::Response;
-use nonce::Nonce;
-use nonce::order::Exchanged;
-use nonce::order::compare;
-use nonce::side::Side;
 
 /// As many octets as the longest message has.
 const LONGEST: usize = 160;

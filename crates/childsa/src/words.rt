@@ -14,12 +14,12 @@ use crate::hex::from_hex;
 use crate::wrong::Stop;
 use crate::wrong::StopFromAlloc;
 use crate::wrong::Wrong;
+use nonce::Nonce;
+use nonce::side::Side;
 use octets::u64_at;
 use std::alloc::AllocError;
 use std::alloc::Global;
 use std::str::SplitWhitespace;
-use nonce::Nonce;
-use nonce::side::Side;
 
 /// The words of a line that are still to be read.
 #[derive(Drop)]

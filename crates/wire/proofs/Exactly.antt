@@ -20,4 +20,4 @@ single m n v w e =
     cc
 
 pub one-encoding : One-encoding
-one-encoding = record { back = message-back; exact = message-only; single = single; size = message-size; }
+one-encoding = record { back = message-back; exact = message-only; single = single; size = message-size }

@@ -631,8 +631,7 @@ with-body-only s h m (Ok b) o l w (v, x, f, i, r, n, d) g e =
     parts-joined given s (drop 28 s) (long s 0) (long s 8) (getD s 16 0) (getD s 17 0) (getD s 18 0) (getD s 19 0) (word s 20)
     (word s 24) (front s o l) i r (sym (p .0 .1) ∙ n) (sym v) (p .2 ∙ sym x) fl d k (sym c)
     in
-    subst (λ y. (octets-of y ≡ s) × Valid y) z
-    (
+    subst (λ y. (octets-of y ≡ s) × Valid y) z (
       joined,
       record {
         initiator = omega (arith, i, long-fits s 0 o);

@@ -54,7 +54,7 @@ sixteen x = replicate 16 x
 
 -- a request of A
 abbrev pub asked-by-A : ℕ → Request (List ℕ) → ℕ → ℕ → Message (List ℕ)
-asked-by-A id r i s = record { initiator = i; responder = s; sender = A; id = id; body = body.Request r; }
+asked-by-A id r i s = record { initiator = i; responder = s; sender = A; id = id; body = body.Request r }
 
 -- A deletes the SA that it knows by 1000
 abbrev pub deletes-1000 : ℕ → ℕ → Message (List ℕ)
@@ -67,8 +67,8 @@ lines =
     ∷ beats (sixteen 0x55) (sixteen 0x77) (sixteen 0x44) (sixteen 0x66)
     ∷ loses (sixteen 0x11) (sixteen 0x11) (sixteen 0x11) (sixteen 0x11) A
     ∷ written deletes-1000
-        (0x2A ∷ 0x20 ∷ 0x25 ∷ 0x08 ∷ 0x00 ∷ 0x00 ∷ 0x00 ∷ 0x05 ∷ 0x00 ∷ 0x00 ∷ 0x00 ∷ 0x28
-        ∷ 0x00 ∷ 0x00 ∷ 0x00 ∷ 0x0C ∷ 0x03 ∷ 0x04 ∷ 0x00 ∷ 0x01 ∷ 0x00 ∷ 0x00 ∷ 0x03 ∷ 0xE8 ∷ [])
+    (0x2A ∷ 0x20 ∷ 0x25 ∷ 0x08 ∷ 0x00 ∷ 0x00 ∷ 0x00 ∷ 0x05 ∷ 0x00 ∷ 0x00 ∷ 0x00 ∷ 0x28
+    ∷ 0x00 ∷ 0x00 ∷ 0x00 ∷ 0x0C ∷ 0x03 ∷ 0x04 ∷ 0x00 ∷ 0x01 ∷ 0x00 ∷ 0x00 ∷ 0x03 ∷ 0xE8 ∷ [])
     -- with another last octet of the length in the header
     ∷ refused (λ i r. set (octets-of (deletes-1000 i r)) 27 0x27) 40
     -- right but for a nonce of 15 octets

@@ -25,12 +25,12 @@ use crate::payload::lone_delete;
 use crate::payload::lone_notify;
 use crate::payload::whole_offer;
 use crate::payload::whole_rekey;
-use nonce::side::Side;
 use crate::table::deleted_in;
 use crate::table::failure_in;
 use crate::table::rekeyed_in;
 use crate::table::sa_in;
 use crate::table::ts_body;
+use nonce::side::Side;
 use octets::same;
 use octets::u32_at;
 use octets::u64_at;
@@ -95,7 +95,15 @@ fn header_of(s: &[u8]) -> Option<Header>
     let Some(id) = u32_at(s, 20) else {
         return None;
     };
-    Some(Header { initiator, responder, next: s[16], exchange, sender, direction, id })
+    Some(Header {
+        initiator,
+        responder,
+        next: s[16],
+        exchange,
+        sender,
+        direction,
+        id,
+    })
 }
 
 /// The SPI and the nonce of an offer.
@@ -168,12 +176,18 @@ fn informational(chain: Chain<'_>) -> Result<Option<u32>, DecodeRefusal>
 }
 
 /// What a chain of payloads says in this exchange and direction.
-fn body_of(exchange: Exchange, direction: Direction, chain: Chain<'_>) -> Result<Body<&[u8]>, DecodeRefusal>
+fn body_of(
+    exchange: Exchange,
+    direction: Direction,
+    chain: Chain<'_>,
+) -> Result<Body<&[u8]>, DecodeRefusal>
     ensures { λ r. ⌜ body-read r ≡ body-in exchange direction (chain .entry .kind) (now (chain .entry .octets)) ⌝ }
 {
     match (exchange, direction) {
         (Exchange::CreateChildSa, Direction::Asking) => Ok(Body::Request(create_request(chain)?)),
-        (Exchange::CreateChildSa, Direction::Answering) => Ok(Body::Response(create_response(chain)?)),
+        (Exchange::CreateChildSa, Direction::Answering) => Ok(Body::Response(
+            create_response(chain)?,
+        )),
         (Exchange::Informational, Direction::Asking) => match informational(chain)? {
             Some(spi) => Ok(Body::Request(Request::Delete { spi })),
             None => Ok(Body::Request(Request::Empty)),
@@ -196,7 +210,10 @@ pub fn decode(s: &[u8]) -> Result<Message<&[u8]>, DecodeRefusal>
     let Some(header) = header_of(s) else {
         return Err(DecodeRefusal::Header);
     };
-    let chain = Chain { kind: header.next, octets: s.split_at(28).1 };
+    let chain = Chain {
+        kind: header.next,
+        octets: s.split_at(28).1,
+    };
     let body = body_of(header.exchange, header.direction, chain)?;
     Ok(Message {
         initiator: header.initiator,

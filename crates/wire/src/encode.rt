@@ -16,8 +16,6 @@ use crate::message::Failure;
 use crate::message::Message;
 use crate::message::Request;
 use crate::message::Response;
-use nonce::Nonce;
-use nonce::side::Side;
 use crate::table::bare_body;
 use crate::table::delete_body;
 use crate::table::not_found_body;
@@ -25,6 +23,8 @@ use crate::table::rekey_body;
 use crate::table::sa_body;
 use crate::table::ts_body;
 use crate::text::Text;
+use nonce::Nonce;
+use nonce::side::Side;
 
 /// Adds the payloads of an offer: SA, Nonce, TSi and TSr.
 fn push_offer(text: &mut Text, spi: u32, nonce: &Nonce)

@@ -2,8 +2,8 @@
 pub mod decode;
 pub mod encode;
 mod header;
-mod table;
-mod text;
 pub mod lines;
 pub mod message;
 pub mod payload;
+mod table;
+mod text;

@@ -56,7 +56,11 @@ fn open(octets: &[u8]) -> Option<Opening<'_>>
                 return None;
             }
             let (body, rest) = behind.split_at(len - 4);
-            Some(Opening { body, next: *next, rest })
+            Some(Opening {
+                body,
+                next: *next,
+                rest,
+            })
         }
         // the octet that must be zero is not
         [_, _, _, _, ..] => None,
@@ -91,7 +95,13 @@ fn first(chain: Chain<'_>) -> Option<(Payload<'_>, Chain<'_>)>
     let Some(payload) = of_type(chain.kind, opening.body) else {
         return None;
     };
-    Some((payload, Chain { kind: opening.next, octets: opening.rest }))
+    Some((
+        payload,
+        Chain {
+            kind: opening.next,
+            octets: opening.rest,
+        },
+    ))
 }
 
 /// Whether no payload is left.
@@ -125,7 +135,12 @@ pub(crate) fn whole_offer(chain: Chain<'_>) -> Option<Offer<'_>>
         return None;
     };
     match selectors(chain) {
-        Some((tsi, tsr)) => Some(Offer { sa, nonce, tsi, tsr }),
+        Some((tsi, tsr)) => Some(Offer {
+            sa,
+            nonce,
+            tsi,
+            tsr,
+        }),
         None => None,
     }
 }

@@ -21,19 +21,70 @@ mod tests {
 
     fn rekey(x: u8) -> Option<Message<Nonce>> {
         let nonce = sixteen(x)?;
-        let body = Body::Request(Request::Rekey { old: 1000, spi: 1001, nonce });
-        Some(Message { initiator: 1, responder: 2, sender: Side::B, id: 7, body })
+        let body = Body::Request(Request::Rekey {
+            old: 1000,
+            spi: 1001,
+            nonce,
+        });
+        Some(Message {
+            initiator: 1,
+            responder: 2,
+            sender: Side::B,
+            id: 7,
+            body,
+        })
     }
 
     fn exchanged(initiator: u8, responder: u8) -> Option<Exchanged> {
-        Some(Exchanged { initiator: sixteen(initiator)?, responder: sixteen(responder)? })
+        Some(Exchanged {
+            initiator: sixteen(initiator)?,
+            responder: sixteen(responder)?,
+        })
     }
 
     // A's Delete of 1000 with the Message ID 5.
     fn delete_1000() -> [u8; 40] {
         [
-            1, 2, 3, 4, 5, 6, 7, 8, 9, 10, 11, 12, 13, 14, 15, 16, 0x2A, 0x20, 0x25, 0x08, 0, 0, 0, 5, 0, 0, 0, 0x28,
-            0, 0, 0, 0x0C, 3, 4, 0, 1, 0, 0, 0x03, 0xE8,
+            1,
+            2,
+            3,
+            4,
+            5,
+            6,
+            7,
+            8,
+            9,
+            10,
+            11,
+            12,
+            13,
+            14,
+            15,
+            16,
+            0x2A,
+            0x20,
+            0x25,
+            0x08,
+            0,
+            0,
+            0,
+            5,
+            0,
+            0,
+            0,
+            0x28,
+            0,
+            0,
+            0,
+            0x0C,
+            3,
+            4,
+            0,
+            1,
+            0,
+            0,
+            0x03,
+            0xE8,
         ]
     }
 

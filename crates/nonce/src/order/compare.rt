@@ -21,7 +21,11 @@ pub fn lower<'a>(a: &'a Nonce, b: &'a Nonce) -> &'a [u8]
 {
     let first = a.as_slice();
     let second = b.as_slice();
-    if precedes(second, first) { second } else { first }
+    if precedes(second, first) {
+        second
+    } else {
+        first
+    }
 }
 
 /// The lower of two nonces, each with its name; of equal ones, the first.
@@ -36,12 +40,24 @@ fn lowest<'a>(a: &'a Exchanged, b: &'a Exchanged) -> Lowest
     ensures { λ r. ⌜ r ≡ lowest-in (now (a .entry)) (now (b .entry)) ⌝ }
 {
     let of_a = lower_named(
-        Named { name: Lowest::InitiatorOfA, octets: a.initiator.as_slice() },
-        Named { name: Lowest::ResponderOfA, octets: a.responder.as_slice() },
+        Named {
+            name: Lowest::InitiatorOfA,
+            octets: a.initiator.as_slice(),
+        },
+        Named {
+            name: Lowest::ResponderOfA,
+            octets: a.responder.as_slice(),
+        },
     );
     let of_b = lower_named(
-        Named { name: Lowest::InitiatorOfB, octets: b.initiator.as_slice() },
-        Named { name: Lowest::ResponderOfB, octets: b.responder.as_slice() },
+        Named {
+            name: Lowest::InitiatorOfB,
+            octets: b.initiator.as_slice(),
+        },
+        Named {
+            name: Lowest::ResponderOfB,
+            octets: b.responder.as_slice(),
+        },
     );
     lower_named(of_a, of_b).name
 }

@@ -13,7 +13,10 @@ impl Text {
         ensures octets { λ r. ⌜ octets-in r ≡ [] ⌝ }
         ensures len { λ r. ⌜ r .len ≡ 0 ⌝ }
     {
-        Text { octets: [0; 160], len: 0 }
+        Text {
+            octets: [0; 160],
+            len: 0,
+        }
     }
 
     /// These octets more.

@@ -12,14 +12,14 @@ returns c =
     let payloads = c .as-slice .ensures ∙ c .chain-of-payloads .ensures .octets in
     record {
       octets =
-    six-pushed (octets-in (c .new-text .result)) (octets-in (c .push .last .self)) (octets-in (c .push-2 .last .self))
-    (octets-in (c .push-3 .last .self)) (octets-in (c .push-4 .last .self)) (octets-in (c .push-5 .last .self))
-    (octets-in (c .push-6 .last .self)) (c .new-text .ensures .octets) (c .push .ensures .octets)
-    (c .push-2 .ensures .octets) (c .push-3 .ensures .octets) (c .push-4 .ensures .octets)
-    (c .push-5 .ensures .octets) (c .push-6 .ensures .octets) (c .to-be-bytes .ensures) (c .to-be-bytes-2 .ensures)
-    (c .kinds-of .ensures) (c .to-be-bytes-3 .ensures)
-    (c .to-be-bytes-4 .ensures ∙ ap (λ x. be32 (28 + length x)) payloads)
-    (c .as-slice-2 .ensures ∙ c .chain-of-payloads .ensures .octets);
+          six-pushed (octets-in (c .new-text .result)) (octets-in (c .push .last .self)) (octets-in (c .push-2 .last .self))
+          (octets-in (c .push-3 .last .self)) (octets-in (c .push-4 .last .self)) (octets-in (c .push-5 .last .self))
+          (octets-in (c .push-6 .last .self)) (c .new-text .ensures .octets) (c .push .ensures .octets)
+          (c .push-2 .ensures .octets) (c .push-3 .ensures .octets) (c .push-4 .ensures .octets)
+          (c .push-5 .ensures .octets) (c .push-6 .ensures .octets) (c .to-be-bytes .ensures) (c .to-be-bytes-2 .ensures)
+          (c .kinds-of .ensures) (c .to-be-bytes-3 .ensures)
+          (c .to-be-bytes-4 .ensures ∙ ap (λ x. be32 (28 + length x)) payloads)
+          (c .as-slice-2 .ensures ∙ c .chain-of-payloads .ensures .octets);
       valid = record {
         initiator = omega arith;
         responder = omega arith;

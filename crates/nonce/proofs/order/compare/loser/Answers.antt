@@ -13,4 +13,4 @@ returns c =
     loses (nonce-octets (a .initiator)) (nonce-octets (a .responder)) (nonce-octets (b .initiator))
     (nonce-octets (b .responder))
     in
-    record { value = v; lowest = subst (λ s. Loses-in s a b) (sym v) l; }
+    record { value = v; lowest = subst (λ s. Loses-in s a b) (sym v) l }

@@ -14,7 +14,7 @@ returns-then-out-len c =
     let s = c .as-slice-octets .result .now in
     let e = c .as-slice-octets .ensures ∙ c .text-of-text .ensures .octets in
     let short : length out < length s = omega arith in
-    record { answer = refused-answer m out s e short; buffer = refused-buffer m out s e short; valid = c .text-of-text .ensures .valid; }
+    record { answer = refused-answer m out s e short; buffer = refused-buffer m out s e short; valid = c .text-of-text .ensures .valid }
 
 pub returns : need.returns
 returns c =

@@ -1,0 +1,4 @@
+pub mod Rows
+pub mod Shelves
+pub mod Audits
+pub mod Places

@@ -1,0 +1,4 @@
+pub mod Places
+pub mod Lanings
+pub mod Holding
+pub mod Fating

@@ -1,0 +1,8 @@
+-- The number of each refusal to make a channel.
+use Prim.Native.Nat.{ℕ}
+use Rattle.bottoms.specs.declared.refusal.MakeRefusal.{MakeRefusal}
+use Rattle.bottoms.specs.declared.refusal.MakeRefusal.the-variants.{NoMemory, Longest}
+
+abbrev pub make-number : MakeRefusal → ℕ
+make-number NoMemory = 0
+make-number Longest = 11

@@ -1,0 +1,5 @@
+pub mod Numbers
+pub mod Meaning
+pub mod Effects
+pub mod Marks
+pub mod Loopback

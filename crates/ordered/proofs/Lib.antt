@@ -1,0 +1,4 @@
+mod Shifts
+mod Placing
+mod Found
+mod Filed

@@ -1,0 +1,4 @@
+mod Seeking
+mod Sorting
+mod Placing
+mod Filed
