@@ -30,11 +30,12 @@ impl BookRefusal {
     }
 }
 
-/// A record of Child SAs, by own SPI.
+/// A record of Child SAs, by own SPI. A change that is refused leaves all as it was, and a question changes nothing.
 pub trait Book {
     /// The rows by rising own SPI, and how many there can be.
     ghost shelf: { Self → Shelf };
 
+    /// Own SPIs rise strictly, none is reserved, and there are no more rows than there can be.
     law orderly: { (b : Self) → Orderly (shelf b) };
 
     /// How many rows there are.
@@ -45,19 +46,19 @@ pub trait Book {
     fn capacity(&self) -> usize
         ensures { λ r. ⌜ r ≡ shelf (now (self .entry)) .most ⌝ };
 
-    /// Adds a row.
+    /// Adds a row. Refused, in this order, where its own SPI is reserved or present, or where there is no room.
     fn put(&mut self, row: Row) -> Result<(), BookRefusal>
         ensures { λ r. ⌜ (r, shelf (now (self .exit))) ≡ put-in (shelf (now (self .entry))) row ⌝ };
 
-    /// The row of an own SPI.
+    /// The row of an own SPI. Refused where there is none.
     fn read(&self, own: u32) -> Result<Row, BookRefusal>
         ensures { λ r. ⌜ r ≡ read-in (shelf (now (self .entry))) own ⌝ };
 
-    /// Puts a row into the place of the one that has its own SPI.
+    /// Puts a row into the place of the one that has its own SPI. Refused where there is none.
     fn write(&mut self, row: Row) -> Result<(), BookRefusal>
         ensures { λ r. ⌜ (r, shelf (now (self .exit))) ≡ written-in (shelf (now (self .entry))) row ⌝ };
 
-    /// Removes the row of an own SPI.
+    /// Removes the row of an own SPI. Refused where there is none.
     fn remove(&mut self, own: u32) -> Result<(), BookRefusal>
         ensures { λ r. ⌜ (r, shelf (now (self .exit))) ≡ removed-from (shelf (now (self .entry))) own ⌝ };
 

@@ -3,8 +3,8 @@ ghost use mathlib.Core.Path.{_≡_};
 ghost use Rattle.std.specs.Options.{mapped};
 ghost use Rattle.nonce.specs.Nonces.{as-nonce, nonce-octets};
 ghost use Rattle.book.specs.Rows.{state-number, beginner-number, is-opening, kept, kept-octets, nr-octets, exchanged, mirrors};
-use nonce::Nonce;
 use octets::same;
+use nonce::Nonce;
 
 /// The state of a Child SA at one end.
 #[derive(Clone, Copy, PartialEq, Eq, Debug)]
@@ -81,7 +81,10 @@ impl Beginner {
     pub fn number(self) -> u8
         ensures { λ r. ⌜ r ≡ beginner-number self ⌝ }
     {
-        self as u8
+        match self {
+            Beginner::ThisEnd => 0,
+            Beginner::Peer => 1,
+        }
     }
 }
 

@@ -4,5 +4,5 @@ use Rattle.bottoms.specs.declared.refusal.MakeRefusal.{MakeRefusal}
 use Rattle.bottoms.specs.declared.refusal.MakeRefusal.the-variants.{NoMemory, Longest}
 
 abbrev pub make-number : MakeRefusal → ℕ
-make-number NoMemory = 0
 make-number Longest = 11
+make-number NoMemory = 12

@@ -2,13 +2,13 @@
 ghost use mathlib.Core.Path.{_≡_};
 ghost use Rattle.bottoms.specs.Refusals.{make-number};
 
-/// Why no channel is made; as a number, that of the rule, or 0 for what no rule forbids.
+/// Why no channel is made; as a number, that of the rule.
 #[derive(Clone, Copy, PartialEq, Eq, Debug)]
 pub enum MakeRefusal {
-    /// There is no memory.
-    NoMemory = 0,
     /// The longest datagram has not 32 to 256 octets.
     Longest = 11,
+    /// There is no memory for the fates of a trace.
+    NoMemory = 12,
 }
 
 impl MakeRefusal {

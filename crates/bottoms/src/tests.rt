@@ -13,8 +13,8 @@ use channel::marker::Marker;
 use channel::marker::MarkerChannel;
 use channel::sent::Sent;
 use channel::sent::SentPartialEq;
-use nonce::side::Side;
 use std::test::*;
+use nonce::side::Side;
 
 /// The datagram that comes to an end: its length and its last octet.
 fn next<C: Channel>(channel: &mut C, at: Side) -> Option<(usize, u8)> {

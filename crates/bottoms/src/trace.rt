@@ -16,8 +16,8 @@ use crate::lanes::Lanes;
 use crate::refusal::MakeRefusal;
 use channel::channel::Channel;
 use channel::sent::Sent;
-use nonce::side::Side;
 use std::alloc::Global;
+use nonce::side::Side;
 
 /// At most 32 datagrams are there for each end.
 #[derive(Drop)]

@@ -9,10 +9,13 @@ use book::row::Row;
 pub mod methods;
 mod rows;
 
+/// How many rows a book can have.
+const CAPACITY: usize = 16;
+
 /// A book of at most 16 rows, which lie in the first places by rising own SPI.
 #[derive(Drop)]
 pub struct OrderedBook {
-    places: [Row; 16],
+    places: [Row; CAPACITY],
     count: usize,
     ghost most: { count ≤ 16 },
     ghost long: { length places ≡ 16 },

@@ -6,6 +6,7 @@ ghost use Rattle.book.specs.Shelves.{has, insert, empty-shelf};
 ghost use Rattle.std.specs.Options.{Cases};
 ghost use Rattle.ordered.specs.Places.{index-of};
 ghost use Rattle.ordered.specs.Shelved.{shelved, ordered-rows};
+use crate::CAPACITY;
 use crate::OrderedBook;
 use crate::rows::first;
 use crate::rows::index;
@@ -21,7 +22,7 @@ impl OrderedBook {
         ensures { λ r. ⌜ shelved r ≡ empty-shelf 16 ⌝ }
     {
         OrderedBook {
-            places: [Row::BLANK; 16],
+            places: [Row::BLANK; CAPACITY],
             count: 0,
         }
     }
@@ -48,9 +49,9 @@ impl OrderedBook {
         requires { ⌜ now self .count < 16 ⌝ }
         ensures { λ _. ⌜ ordered-rows (now (self .exit)) ≡ insert (ordered-rows (now (self .entry))) row ⌝ }
     {
-        let i = room(self.rows(), row.own);
-        self.places[i..self.count + 1].rotate_right(1);
-        self.places[i] = row;
+        let place = room(self.rows(), row.own);
+        self.places[place..self.count + 1].rotate_right(1);
+        self.places[place] = row;
         self.count += 1;
     }
 }
@@ -59,11 +60,11 @@ pub impl Book for OrderedBook as OrderedShelf {
     ghost shelf = { shelved };
 
     fn len(&self) -> usize {
-        self.count
+        self.rows().len()
     }
 
     fn capacity(&self) -> usize {
-        16
+        self.places.len()
     }
 
     fn put(&mut self, row: Row) -> Result<(), BookRefusal> {
@@ -73,7 +74,7 @@ pub impl Book for OrderedBook as OrderedShelf {
         if self.position(row.own).is_some() {
             return Err(BookRefusal::Present);
         }
-        if self.count >= 16 {
+        if self.count >= CAPACITY {
             return Err(BookRefusal::Full);
         }
         self.insert(row);

@@ -8,10 +8,13 @@ use book::row::Row;
 pub mod methods;
 mod slots;
 
+/// How many rows a book can have.
+const CAPACITY: usize = 16;
+
 /// A book of at most 16 rows. A row stands in its hashed place, or in another where that was taken.
 #[derive(Drop)]
 pub struct TableBook {
-    slots: [Option<Row>; 16],
+    slots: [Option<Row>; CAPACITY],
     ghost long: { length slots ≡ 16 },
     ghost ok: { apart slots ≡ true },
 }

@@ -7,6 +7,7 @@ ghost use Rattle.std.specs.declared.option.Option.the-variants.{None};
 ghost use Rattle.book.specs.Shelves.{fits, empty-shelf};
 ghost use Rattle.table.specs.Slots.{home, holds, place-of, free-from, used, lowest};
 ghost use Rattle.table.specs.Shelved.{shelved};
+use crate::CAPACITY;
 use crate::TableBook;
 use crate::slots::holds;
 use crate::slots::home;
@@ -23,7 +24,9 @@ impl TableBook {
     pub fn new() -> TableBook
         ensures { λ r. ⌜ shelved r ≡ empty-shelf 16 ⌝ }
     {
-        TableBook { slots: [None; 16] }
+        TableBook {
+            slots: [None; CAPACITY],
+        }
     }
 
     /// Whether the row of an own SPI stands in its hashed place.
@@ -51,8 +54,8 @@ impl TableBook {
         ensures within { λ r. ⌜ Cases r (Unit {0}) (λ i. i < 16) ⌝ }
     {
         let start = home(own);
-        for step in 0..16 {
-            let i = (start + step) % 16;
+        for step in 0..CAPACITY {
+            let i = (start + step) % CAPACITY;
             if self.slots[i].is_none() {
                 return Some(i);
             }
@@ -65,7 +68,7 @@ impl TableBook {
         ensures { λ r. ⌜ r ≡ lowest (fits wanted) (now (self .entry) .slots) ⌝ }
     {
         let mut best = None;
-        for i in 0..16 {
+        for i in 0..CAPACITY {
             best = lower(best, mine(&self.slots[i], wanted));
         }
         best
@@ -76,7 +79,7 @@ impl TableBook {
         ensures { λ r. ⌜ r ≡ used (now (self .entry) .slots) ⌝ }
     {
         let mut count = 0;
-        for i in 0..16 {
+        for i in 0..CAPACITY {
             if self.slots[i].is_some() {
                 count += 1;
             }
@@ -93,7 +96,7 @@ pub impl Book for TableBook as TableShelf {
     }
 
     fn capacity(&self) -> usize {
-        16
+        self.slots.len()
     }
 
     fn put(&mut self, row: Row) -> Result<(), BookRefusal> {
@@ -104,8 +107,8 @@ pub impl Book for TableBook as TableShelf {
             return Err(BookRefusal::Present);
         }
         match self.free_place(row.own) {
-            Some(i) => {
-                self.slots[i] = Some(row);
+            Some(free) => {
+                self.slots[free] = Some(row);
                 Ok(())
             }
             None => Err(BookRefusal::Full),

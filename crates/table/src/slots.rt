@@ -5,6 +5,7 @@ ghost use lib.ListN.{length};
 ghost use Rattle.book.specs.Shelves.{fits};
 ghost use Rattle.std.specs.Options.{Cases};
 ghost use Rattle.table.specs.Slots.{home, holds, place-in, mine, lower};
+use crate::CAPACITY;
 use book::row::Row;
 use book::wanted::Wanted;
 
@@ -12,7 +13,7 @@ use book::wanted::Wanted;
 pub(crate) fn home(own: u32) -> usize
     ensures { λ r. ⌜ r ≡ home own ⌝ }
 {
-    (own % 16) as usize
+    own as usize % CAPACITY
 }
 
 /// Whether a slot holds the row of an own SPI.

@@ -8,8 +8,8 @@ pub ghost-self : need.ghost-self
 ghost-self c =
     let b = c .args .self .now in
     let e =
-    filed-in (b .places) (c .rotate-right .last .self) (b .count) (c .room-i .result) (c .args .row) (search needs)
-    (c .room-i .ensures .value ∙ ap (λ ys. room ys (c .args .row .own)) (c .rows .ensures)) (search needs)
+    filed-in (b .places) (c .rotate-right .last .self) (b .count) (c .room-place .result) (c .args .row) (search needs)
+    (c .room-place .ensures .value ∙ ap (λ ys. room ys (c .args .row .own)) (c .rows .ensures)) (search needs)
     (c .rotate-right .ensures .len) (c .rotate-right .ensures .places .1) in (
       search needs,
       (
@@ -20,6 +20,6 @@ ghost-self c =
 
 pub returns : need.returns
 returns c =
-    filed-in (c .args .self .now .places) (c .rotate-right .last .self) (c .args .self .now .count) (c .room-i .result) (c .args .row)
-    (search needs) (c .room-i .ensures .value ∙ ap (λ ys. room ys (c .args .row .own)) (c .rows .ensures)) (search needs)
+    filed-in (c .args .self .now .places) (c .rotate-right .last .self) (c .args .self .now .count) (c .room-place .result) (c .args .row)
+    (search needs) (c .room-place .ensures .value ∙ ap (λ ys. room ys (c .args .row .own)) (c .rows .ensures)) (search needs)
     (c .rotate-right .ensures .len) (c .rotate-right .ensures .places .1)

@@ -11,8 +11,8 @@ returns-then-is-some c =
     let h = has-index (ordered-rows (c .args .self .now)) (c .args .row .own) _ (c .position .ensures .value) in
     sym (put-present (shelved (c .args .self .now)) (c .args .row) (omega arith) (h ∙ sym (c .if-is-some .ensures tt)))
 
-pub returns-then-self-ge16 : need.returns-then-self-ge16
-returns-then-self-ge16 c =
+pub returns-then-self-ge-CAPACITY : need.returns-then-self-ge-CAPACITY
+returns-then-self-ge-CAPACITY c =
     let h = has-index (ordered-rows (c .args .self .now)) (c .args .row .own) _ (c .position .ensures .value) in
     sym (put-full (shelved (c .args .self .now)) (c .args .row) (omega arith) (h ∙ sym (c .if-is-some .ensures tt)) (search needs))
 

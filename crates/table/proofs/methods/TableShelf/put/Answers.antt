@@ -19,7 +19,7 @@ ghost-self c =
     let h = has-place (b .slots) (c .args .row .own) _ (b .ok) (c .place .ensures .value) in (
       search needs,
       (
-        put-place (b .slots) (c .args .row) (home (c .args .row .own)) 16 (c .in-Some .i) (b .ok) (search needs) (c .in-Some .ensures tt .value)
+        put-place (b .slots) (c .args .row) (home (c .args .row .own)) 16 (c .in-Some .free) (b .ok) (search needs) (c .in-Some .ensures tt .value)
             (omega arith) (h ∙ sym (c .if-is-some .ensures tt)) .0,
         tt,
       ),
@@ -30,8 +30,8 @@ returns-in-Some c =
     let b = c .args .self .now in
     let h = has-place (b .slots) (c .args .row .own) _ (b .ok) (c .place .ensures .value) in
     put-made (shelved b) (c .args .row) _ (omega arith) (h ∙ sym (c .if-is-some .ensures tt))
-    (room-place (b .slots) (home (c .args .row .own)) 16 (c .in-Some .i) (b .long) (search needs) (c .in-Some .ensures tt .value))
-    (put-place (b .slots) (c .args .row) (home (c .args .row .own)) 16 (c .in-Some .i) (b .ok) (search needs) (c .in-Some .ensures tt .value)
+    (room-place (b .slots) (home (c .args .row .own)) 16 (c .in-Some .free) (b .long) (search needs) (c .in-Some .ensures tt .value))
+    (put-place (b .slots) (c .args .row) (home (c .args .row .own)) 16 (c .in-Some .free) (b .ok) (search needs) (c .in-Some .ensures tt .value)
     (omega arith) (h ∙ sym (c .if-is-some .ensures tt)) .1)
 
 pub returns-in-None : need.returns-in-None
