@@ -1,6 +1,6 @@
 -- A channel that holds datagrams keeps the rules of a channel.
 use mathlib.Core.Path.{_≡_, refl, sym, ap, subst, _∙_}
-use mathlib.Core.Bool.{Bool, true, false, cond}
+use mathlib.Core.Bool.{true}
 use mathlib.Core.Logic.{_⊎_, inl, inr, ⊎-elim}
 use mathlib.Core.List.{List, [], _∷_, _++_}
 use Prim.Native.Nat.{ℕ, _≤_, _<_}
@@ -8,20 +8,19 @@ use native.Mathlib.Omega.{arith}
 use lib.ListN.{length, take, drop}
 use Rattle.std.specs.declared.option.Option.{Option}
 use Rattle.std.specs.declared.option.Option.the-variants.{Some, None}
-use Rattle.std.proofs.shelf.Lists.{append-nil, take-at, drop-at, length-append}
+use Rattle.std.proofs.shelf.Lists.{append-nil, take-at, drop-at}
 use Rattle.std.proofs.shelf.Tests.{and-parts, leb-true, ltb-true, cond-true}
 use Rattle.nonce.specs.declared.side.Side.{Side}
 use Rattle.nonce.specs.declared.side.Side.the-variants.{A, B}
-use Rattle.channel.specs.Meaning.{Meaning, In, Without, Within, Sound, other}
+use Rattle.channel.specs.Meaning.{In, Without, Within, Sound, other}
 use Rattle.channel.specs.Effects.{Sent-as, Received-as}
-use Rattle.channel.specs.declared.sent.Sent.{Sent}
-use Rattle.channel.specs.declared.sent.Sent.the-variants.{Taken, NotTaken}
-use Rattle.bottoms.specs.Datagrams.{is-sized, all-sized, served, first-of}
+use Rattle.channel.specs.declared.sent.Sent.the-variants.{Taken}
+use Rattle.bottoms.specs.Datagrams.{is-sized, all-sized, first-of}
 use Rattle.bottoms.specs.Lanes.{lane-list}
 use Rattle.bottoms.specs.Stores.{Store, list-at, with-list, admits, serves, with-left, received, added-last, added-first, store-of}
 use Rattle.bottoms.specs.Bottoms.{holding}
 use Rattle.bottoms.specs.declared.lanes.Lanes.{Lanes}
-use Rattle.bottoms.proofs.Places.{sized-parts, sized-from, admitted-parts, admitted-from}
+use Rattle.bottoms.proofs.Places.{sized-parts, admitted-parts}
 
 -- ---- lists
 

@@ -7,7 +7,7 @@ use native.Mathlib.Numerals.{add-one}
 use native.Mathlib.Omega.{arith}
 use lib.ListN.{length, take, drop, getD, set}
 use Rattle.std.proofs.shelf.Lists.{length-map, length-take-le, length-drop, take-more-set, map-push, take-take, take-at, take-append-le}
-use Rattle.std.proofs.shelf.Tests.{and-from, and-parts, leb-true, le-leb, ltb-true, lt-ltb}
+use Rattle.std.proofs.shelf.Tests.{and-from, and-parts, leb-true, le-leb, ltb-true}
 use Rattle.bottoms.specs.Datagrams.{is-sized, all-sized, admitted}
 
 -- octets that were copied to the front of a row
@@ -64,9 +64,6 @@ module _ (longest : ℕ) where
   admitted-parts ds d h =
       let p = and-parts _ _ h in
       (p .0, sized-parts d (p .0) .1, ltb-true (length ds) 32 (p .1))
-
-  pub admitted-from : (ds : List (List ℕ)) (d : List ℕ) → is-sized longest d ≡ true → length ds < 32 → admitted longest ds d ≡ true
-  admitted-from ds d h l = and-from _ _ h (lt-ltb (length ds) 32 l)
 
   pub sized-last :
       (ds : List (List ℕ)) (d : List ℕ) → all-sized longest ds ≡ true → is-sized longest d ≡ true →

@@ -1,6 +1,5 @@
 //! What becomes of what is sent over a trace.
 ghost use mathlib.Core.Path.{_≡_};
-ghost use Rattle.std.specs.Of.Vec.{vec-items};
 ghost use lib.ListN.{drop};
 ghost use Rattle.bottoms.specs.Fates.{fate-of, next-fate, fates-left};
 

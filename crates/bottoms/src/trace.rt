@@ -2,13 +2,13 @@
 ghost use mathlib.Core.Path.{_≡_};
 ghost use mathlib.Core.Bool.{true};
 ghost use mathlib.Core.List.{[]};
-ghost use Prim.Native.Nat.{ℕ, _<_};
+ghost use Prim.Native.Nat.{_<_};
 ghost use lib.ListN.{length};
 ghost use Rattle.std.specs.Results.{mapped};
 ghost use Rattle.std.specs.declared.option.Option.the-variants.{None};
 ghost use Rattle.channel.specs.Meaning.{Within};
 ghost use Rattle.channel.specs.Effects.{Sent-as, Received-as};
-ghost use Rattle.bottoms.specs.Stores.{admits, received, store-of};
+ghost use Rattle.bottoms.specs.Stores.{admits, store-of};
 ghost use Rattle.bottoms.specs.Traces.{fated, traced, trace-means, trace-sent, trace-received, Trace-made};
 use crate::fate::Fate;
 use crate::fate::Fates;

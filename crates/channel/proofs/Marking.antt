@@ -2,7 +2,7 @@
 use mathlib.Core.Path.{_≡_, refl, sym, ap, subst, _∙_}
 use mathlib.Core.Bool.{Bool, true, false, cond}
 use mathlib.Core.Logic.{_⊎_, inl, inr, ⊎-elim}
-use mathlib.Core.List.{List, [], _∷_, _++_, map}
+use mathlib.Core.List.{List, [], _++_, map}
 use Prim.Native.Nat.{ℕ, _-_, _≤_, _<_}
 use native.Mathlib.Omega.{arith}
 use lib.ListN.{length, take, drop, replicate}
@@ -12,11 +12,11 @@ use Rattle.std.specs.declared.option.Option.the-variants.{Some, None}
 use Rattle.std.proofs.shelf.Lists.{length-map, nil-from-length}
 use Rattle.std.proofs.shelf.Tests.{both-ways, cases-bool, cond-true, cond-false}
 use Rattle.nonce.specs.declared.side.Side.{Side}
-use Rattle.channel.specs.Meaning.{Meaning, Sound, Within, Without, other}
-use Rattle.channel.specs.Effects.{Sent-as, Came, Removed, Received-as}
+use Rattle.channel.specs.Meaning.{Meaning, Sound, Within, other}
+use Rattle.channel.specs.Effects.{Sent-as, Removed, Received-as}
 use Rattle.channel.specs.Marks.{mark, is-marked, all-marked, marked, passed, Unmarks}
 use Rattle.channel.specs.declared.sent.Sent.{Sent}
-use Rattle.channel.proofs.Marked.{marked-long, marks-back, mark-is-marked, length-behind, front-behind, rest-behind, all-with, all-without, cut-without, in-cut, in-back, both-marked, each-marked, both-from}
+use Rattle.channel.proofs.Marked.{marks-back, mark-is-marked, length-behind, front-behind, rest-behind, all-with, all-without, cut-without, in-cut, in-back, both-marked, each-marked, both-from}
 
 -- ---- the depth
 

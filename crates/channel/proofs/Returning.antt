@@ -1,18 +1,16 @@
 -- A datagram that is sent where nothing waits, and received there.
-use mathlib.Core.Path.{_≡_, refl, sym, ap, subst, _∙_}
+use mathlib.Core.Path.{_≡_, sym, ap, _∙_}
 use mathlib.Core.List.{List, [], _∷_, _++_}
-use Prim.Native.Nat.{ℕ, _≤_, _<_}
+use Prim.Native.Nat.{ℕ, _<_}
 use native.Mathlib.Omega.{arith}
 use lib.ListN.{length, take, drop}
-use Rattle.std.specs.Options.{Cases}
 use Rattle.std.specs.declared.option.Option.{Option}
 use Rattle.std.specs.declared.option.Option.the-variants.{Some, None}
 use Rattle.std.proofs.shelf.Lists.{length-append, length-take-le, take-append-drop}
 use Rattle.nonce.specs.declared.side.Side.{Side}
-use Rattle.channel.specs.Meaning.{Meaning, Sound, Without}
-use Rattle.channel.specs.Effects.{Added, Sent-as, Came, Removed, Received-as}
+use Rattle.channel.specs.Meaning.{Meaning}
+use Rattle.channel.specs.Effects.{Sent-as, Removed, Received-as}
 use Rattle.channel.specs.Loopback.{Ready, Returned}
-use Rattle.channel.specs.declared.sent.Sent.{Sent}
 use Rattle.channel.specs.declared.sent.Sent.the-variants.{Taken, NotTaken}
 
 -- what has only d more than nothing

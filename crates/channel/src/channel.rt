@@ -1,7 +1,7 @@
 //! What a channel is.
 ghost use mathlib.Core.Path.{_≡_};
 ghost use mathlib.Core.List.{[]};
-ghost use Prim.Native.Nat.{ℕ, _<_};
+ghost use Prim.Native.Nat.{_<_};
 ghost use lib.ListN.{length};
 ghost use Rattle.std.specs.declared.option.Option.the-variants.{None};
 ghost use Rattle.channel.specs.Meaning.{Meaning, Sound, Within};

@@ -1,4 +1,3 @@
-use mathlib.Core.Path.{refl}
 use Rattle.bottoms.proofs.Places.{copied-front}
 use Rattle.bottoms.proofs.datagram.Datagram.of.Needs as need
 

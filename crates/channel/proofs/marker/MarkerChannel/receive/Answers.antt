@@ -1,11 +1,9 @@
 use mathlib.Core.Path.{_≡_, refl, ap}
-use mathlib.Core.List.{List}
-use Prim.Native.Nat.{_-_, _≤_}
+use Prim.Native.Nat.{_-_}
 use native.Mathlib.Omega.{arith}
-use lib.ListN.{length, take}
-use Rattle.std.proofs.shelf.Lists.{length-take}
+use lib.ListN.{take}
 use Rattle.std.specs.declared.option.Option.the-variants.{Some, None}
-use Rattle.channel.specs.Marks.{marked, passed, Unmarks}
+use Rattle.channel.specs.Marks.{Unmarks}
 use Rattle.channel.proofs.Marking.{unmarks-received, deep, none-below, some-none}
 use Rattle.channel.proofs.marker.MarkerChannel.receive.Needs as need
 
