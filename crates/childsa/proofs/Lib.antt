@@ -1,2 +1,4 @@
 pub mod Digits
 pub mod Fronts
+pub mod Orderly
+pub mod Through

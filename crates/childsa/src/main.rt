@@ -1,15 +1,23 @@
 //! Runs a script of commands on the messages about Child SAs, and prints the answer to each.
 //!
 //! The script is the file that the one argument names or, without one, the standard input.
+mod any_book;
+mod books;
+mod bottom;
+mod channels;
 mod commands;
+mod desk;
 mod fault;
 mod help;
 mod hex;
 mod messages;
+mod pile;
+mod row_text;
 mod words;
 mod wrong;
 
 use commands::answer;
+use desk::Desk;
 use fault::Fault;
 use fault::FaultDebug;
 use std::env;
@@ -21,8 +29,8 @@ use wrong::Stop;
 use wrong::WrongDisplay;
 
 /// Prints the answer to the line of this number.
-fn respond(rt: &LibcRuntime, number: u64, line: &str) -> Result<(), Fault> {
-    let printed = match answer(rt.alloc(), line) {
+fn respond(rt: &LibcRuntime, desk: &mut Desk, number: u64, line: &str) -> Result<(), Fault> {
+    let printed = match answer(desk, rt.alloc(), line) {
         Ok(Some(text)) => rt.println(text),
         Ok(None) => Ok(()),
         Err(Stop::Wrong(wrong)) => println!(rt, "line {number}: {wrong}"),
@@ -36,11 +44,12 @@ fn respond(rt: &LibcRuntime, number: u64, line: &str) -> Result<(), Fault> {
 
 /// Answers each line of a script in turn.
 fn answer_all<R: BufRead + Drop>(rt: &LibcRuntime, script: R) -> Result<(), Fault> {
+    let mut desk = Desk::new();
     let mut number: u64 = 0;
     for line in script.lines(rt.alloc()) {
         number = number.saturating_add(1);
         match line {
-            Ok(text) => respond(rt, number, text.as_str())?,
+            Ok(text) => respond(rt, &mut desk, number, text.as_str())?,
             Err(error) => return Err(Fault::Read {
                 line: number,
                 error,

@@ -9,14 +9,13 @@ ghost use Rattle.childsa.specs.Hex.{hex-text};
 ghost use Rattle.childsa.specs.Read.{side-text};
 use crate::hex::to_hex;
 use crate::words::Words;
-use crate::words::octets_of;
+use crate::words::side_name;
 use crate::wrong::Stop;
 use crate::wrong::StopFromAlloc;
 use crate::wrong::Wrong;
 use nonce::Nonce;
 use nonce::order::Exchanged;
 use nonce::order::compare;
-use nonce::side::Side;
 use std::alloc::AllocError;
 use std::alloc::Global;
 use wire::message::Body;
@@ -30,7 +29,7 @@ const LONGEST: usize = 160;
 
 /// `decode HEX`: the message that the octets are, or the number of the check that they fail.
 pub(crate) fn decode(heap: Global, words: &mut Words<'_>) -> Result<String, Stop> {
-    let octets = read_datagram(heap, words)?;
+    let octets = words.datagram()?;
     words.end()?;
     match wire::decode::decode(octets.as_slice()) {
         Ok(message) => Ok(message_text(heap, &message)?),
@@ -74,14 +73,6 @@ fn read_exchanged(words: &mut Words<'_>) -> Result<Exchanged, Stop> {
     })
 }
 
-/// The octets of a datagram; `-` stands for none.
-fn read_datagram(heap: Global, words: &mut Words<'_>) -> Result<Vec<u8>, Stop> {
-    match words.word("the octets of a datagram, or `-` for none")? {
-        "-" => Ok(Vec::new(heap)),
-        word => octets_of(heap, word),
-    }
-}
-
 /// The octets of a message as text.
 fn octets_text(heap: Global, message: &Message<Nonce>) -> Result<String, Stop>
     ensures { λ r. ⌜ made r (λ s. string-bytes s ≡ hex-text (octets-of (plain nonce-octets (now (message .entry))))) ⌝ }
@@ -105,16 +96,6 @@ fn loser_name(a: &Exchanged, b: &Exchanged) -> &'static str
     ensures { λ r. ⌜ now r ≡ side-text (loser-in (now (a .entry)) (now (b .entry))) ⌝ }
 {
     side_name(compare::loser(a, b))
-}
-
-/// The name of an end.
-fn side_name(side: Side) -> &'static str
-    ensures { λ r. ⌜ now r ≡ side-text side ⌝ }
-{
-    match side {
-        Side::A => "A",
-        Side::B => "B",
-    }
 }
 
 /// What is printed of a message.

@@ -9,7 +9,7 @@ ghost use Rattle.std.specs.Vec.{made};
 ghost use Rattle.std.specs.declared.option.Option.the-variants.{Some};
 ghost use Rattle.nonce.specs.Nonces.{nonce-octets, as-nonce};
 ghost use Rattle.childsa.specs.Hex.{from-hex};
-ghost use Rattle.childsa.specs.Read.{decimal, spread, ike-spi};
+ghost use Rattle.childsa.specs.Read.{decimal, spread, ike-spi, side-text};
 use crate::hex::from_hex;
 use crate::wrong::Stop;
 use crate::wrong::StopFromAlloc;
@@ -86,6 +86,11 @@ impl<'a> Words<'a> {
     /// A number of 32 bits.
     pub(crate) fn number(&mut self, expected: &str) -> Result<u32, Stop> {
         let word = self.word(expected)?;
+        self.number_from(word)
+    }
+
+    /// The number of 32 bits that a word writes.
+    pub(crate) fn number_from(&self, word: &str) -> Result<u32, Stop> {
         if !is_decimal(word) {
             return Err(Stop::Wrong(Wrong::NotNumber(word.to_string(self.heap)?)));
         }
@@ -120,13 +125,37 @@ impl<'a> Words<'a> {
         }
     }
 
+    /// The octets of a datagram; `-` stands for none.
+    pub(crate) fn datagram(&mut self) -> Result<Vec<u8>, Stop> {
+        match self.word("the octets of a datagram, or `-` for none")? {
+            "-" => Ok(Vec::new(self.heap)),
+            word => octets_of(self.heap, word),
+        }
+    }
+
     /// A nonce.
     pub(crate) fn nonce(&mut self, expected: &str) -> Result<Nonce, Stop> {
-        let octets = self.octets(expected)?;
+        let word = self.word(expected)?;
+        self.nonce_from(word)
+    }
+
+    /// The nonce that a word writes.
+    pub(crate) fn nonce_from(&self, word: &str) -> Result<Nonce, Stop> {
+        let octets = octets_of(self.heap, word)?;
         match nonce_of(octets.as_slice()) {
             Some(nonce) => Ok(nonce),
             None => Err(Stop::Wrong(Wrong::NonceLength(octets.len()))),
         }
+    }
+}
+
+/// The name of an end.
+pub(crate) fn side_name(side: Side) -> &'static str
+    ensures { λ r. ⌜ now r ≡ side-text side ⌝ }
+{
+    match side {
+        Side::A => "A",
+        Side::B => "B",
     }
 }
 

@@ -1,5 +1,8 @@
 //! What is wrong with a line.
+use crate::words::side_name;
+use nonce::side::Side;
 use std::alloc::AllocError;
+use std::alloc::Refused;
 use std::fmt;
 
 /// What is wrong with a line of the script.
@@ -25,6 +28,12 @@ pub(crate) enum Wrong {
     IkeSpiLength(usize),
     /// A message of more octets than the longest has.
     NoRoom,
+    /// The book of this name was not started.
+    NoBook(Side),
+    /// No channel was made.
+    NoChannel,
+    /// A buffer of this many octets.
+    BufferLength(u32),
 }
 
 /// Why a line has no answer.
@@ -38,6 +47,12 @@ pub(crate) enum Stop {
 
 pub(crate) impl From<AllocError> for Stop as StopFromAlloc {
     fn from(_e: AllocError) -> Stop {
+        Stop::Memory
+    }
+}
+
+pub(crate) impl<T: Drop> From<Refused<T>> for Stop as StopFromRefused {
+    fn from(_e: Refused<T>) -> Stop {
         Stop::Memory
     }
 }
@@ -64,6 +79,21 @@ pub(crate) impl fmt::Display for Wrong as WrongDisplay {
             ),
             Wrong::IkeSpiLength(octets) => write!(f, "an IKE SPI has 8 octets, this has {octets}"),
             Wrong::NoRoom => write!(f, "the message has more than 160 octets"),
+            Wrong::NoBook(side) => {
+                let name = side_name(*side);
+                write!(
+                    f,
+                    "there is no book {name}; start one with `book ordered {name}` or `book table {name}`"
+                )
+            }
+            Wrong::NoChannel => write!(
+                f,
+                "there is no channel; make one with `channel queue 160`, for example"
+            ),
+            Wrong::BufferLength(octets) => write!(
+                f,
+                "a buffer has 0 to 256 octets here, this has {octets}"
+            ),
         }
     }
 }
