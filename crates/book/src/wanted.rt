@@ -1,4 +1,4 @@
-//! What a search through a book looks for.
+//! Which row of a book is wanted.
 ghost use mathlib.Core.Path.{_≡_};
 ghost use Rattle.book.specs.Shelves.{fits};
 use crate::row::Row;

@@ -73,7 +73,7 @@ fn walks<B: Book>(book: &mut B) -> Result<(), Fail> {
     check_eq(book.next(last), None)
 }
 
-/// A search by the peer's SPI gives the lowest, and never an Opening row.
+/// Looked for by its peer SPI, the lowest row is found, and never an Opening one.
 fn finds<B: Book>(book: &mut B) -> Result<(), Fail> {
     book.put(Row {
         own: 300,

@@ -162,7 +162,7 @@ fn read_text<B: Book>(heap: Global, book: &B, own: u32) -> Result<String, AllocE
     }
 }
 
-/// What a search by peer SPI finds, as text.
+/// What is found by a peer SPI, as text.
 fn find_text<B: Book>(heap: Global, book: &B, peer: u32) -> Result<String, AllocError>
     ensures { λ r. ⌜ made r (λ s. string-bytes s ≡ spi-text (found-in (B·Book .shelf (now (book .entry)) .rows) peer)) ⌝ }
 {
