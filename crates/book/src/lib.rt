@@ -1,4 +1,5 @@
 //! What one end of an IKE SA files of its Child SAs: rows, and the book that holds them.
+#![tactic(auto)]
 ghost use Rattle.std.specs.Prelude.{◌≡◌, length};
 ghost use Rattle.book.specs.Shelves.{Shelf, Orderly, put_in, written_in, removed_from, read_in, find as found_in, next as next-in, book_number};
 

@@ -1,6 +1,7 @@
 //! Runs a script of commands on the messages about Child SAs, and prints the answer to each.
 //!
 //! The script is the file that the one argument names or, without one, the standard input.
+#![tactic(auto)]
 mod any_book;
 mod books;
 mod bottom;

@@ -1,10 +1,9 @@
 -- The order of nonces is total, and the loser's exchange has a lowest nonce.
-use Rattle.std.proofs.Common.{◌≡◌, ℕ, Bool, true, false, cond, eqb, ltb, ◌⊎◌, List, [], ◌∷◌, refl, ap, inl, inr, ⊎_elim, arith}
+use Rattle.std.proofs.Common.{◌≡◌, ℕ, Bool, true, false, cond, ◌⊎◌, List, [], ◌∷◌, refl, ap, inl, inr, ⊎_elim, arith}
 use Rattle.std.proofs.lemmas.Bool.Decides.{nat_tests}
 use Rattle.std.proofs.lemmas.Bool.{true≢false, both_ways, cases_Bool}
 use Rattle.nonce.specs.Order.{lower_than, lowest_of, loser_by, NoneLower, Loses}
 use Rattle.nonce.specs.declared.order.Lowest.TheVariants.{InitiatorOfA, ResponderOfA, InitiatorOfB, ResponderOfB}
-use Rattle.nonce.specs.declared.side.Side.{Side}
 use Rattle.nonce.specs.declared.side.Side.TheVariants.{A, B}
 
 -- none is lower than itself

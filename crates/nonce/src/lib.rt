@@ -1,4 +1,6 @@
 //! Nonces: 16 to 32 octets, their order, and which of two colliding SAs loses.
+#![tactic(auto)]
+
 ghost use Rattle.std.specs.Prelude.{◌≡◌, ◌-◌, ◌≤◌, drop, replicate};
 
 pub mod methods;

@@ -1,5 +1,5 @@
 -- Numbers as octets, the most significant first.
-use Rattle.std.specs.Prelude.{ℕ, ◌+◌, ◌*◌, ◌/◌, ◌%◌, Bool, cond, List, [], ◌∷◌, length, Some, None, Option, nat_le, slice_index}
+use Rattle.std.specs.Prelude.{ℕ, ◌+◌, ◌*◌, ◌/◌, ◌%◌, cond, List, [], ◌∷◌, length, Some, None, Option, nat_le, slice_index}
 
 -- the octets of a number of 16, 32 or 64 bits
 abbrev pub be16 : ℕ → List ℕ

@@ -1,5 +1,7 @@
 //! Rows of octets: whether two are the same, and the numbers of two, four and eight octets in one, the most significant
 //! octet first.
+#![tactic(auto)]
+
 ghost use Rattle.std.specs.Prelude.{◌≡◌, ℕ, ◌+◌, ◌≤◌, length};
 ghost use Rattle.std.specs.Str.{bytes_eq};
 ghost use Rattle.octets.specs.Numbers.{half, word, long, within};

@@ -1,4 +1,5 @@
 //! A book that keeps each row in a place hashed from its own SPI, where that is free.
+#![tactic(auto)]
 ghost use Rattle.std.specs.Prelude.{◌≡◌, true, length};
 ghost use Rattle.table.specs.Slots.{apart};
 

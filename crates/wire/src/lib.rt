@@ -1,4 +1,5 @@
 //! The messages about Child SAs, and their octets.
+#![tactic(auto)]
 pub mod decode;
 pub mod encode;
 mod header;

@@ -1,4 +1,5 @@
 //! Examples of the message layer, each proved and then run.
+#![tactic(auto)]
 
 #[cfg(test)]
 mod tests {
