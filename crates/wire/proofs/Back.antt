@@ -1,15 +1,15 @@
 -- Reading the octets of a message gives the message back.
-use Rattle.std.proofs.Common.{◌≡◌, ℕ, ◌+◌, ◌-◌, ◌^◌, ◌<◌, ◌≤◌, Bool, true, false, cond, ◌&&◌, eqb, leb, List, [], ◌∷◌, ◌++◌, map, length, get_or, take, drop, Some, None, Ok, Err, Option, Result, sym, refl, ap, ◌∙◌, arith, length-append}
+use Rattle.std.proofs.Common.{◌≡◌, ℕ, ◌+◌, ◌-◌, ◌^◌, ◌<◌, ◌≤◌, true, List, [], ◌∷◌, ◌++◌, length, Some, None, Ok, sym, refl, arith, length-append}
 use Rattle.std.proofs.lemmas.Slice.Eq.{bytes_eq-Decides}
 use Rattle.std.proofs.lemmas.List.{take_at, drop_at, take_rest}
 use Rattle.std.proofs.lemmas.Bool.{le-leb, eq-eqb, and_from}
 use Rattle.std.specs.Str.{bytes_eq}
-use Rattle.octets.specs.Numbers.{be16, be32, be64, half, word, long}
+use Rattle.octets.specs.Numbers.{be16, half, word}
 use Rattle.octets.proofs.Words.{half_be16, word_be32, long_be64}
 use Rattle.nonce.specs.Nonces.{nonce_long}
 use Rattle.wire.specs.Payloads.{sa_body, ts_body, rekey_body, failure_body, delete_body, carried, sa_in, rekeyed_in, deleted_in, not_found_in, failure_in}
-use Rattle.wire.specs.Messages.{Part, part, offer_parts, request_parts, response_parts, parts_of, first_type, chain, exchange_of, sender_flag, response_flag, octets_of}
-use Rattle.wire.specs.Decoding.{sized, exchange_in, flags_in, header_in, opens, opened, taken, bodies, offer_order, rekey_order, offer_in, request_in, response_in, informational_in, body_in, decoded}
+use Rattle.wire.specs.Messages.{Part, part, offer_parts, parts_of, first_type, chain, exchange_of, sender_flag, response_flag, octets_of}
+use Rattle.wire.specs.Decoding.{sized, exchange_in, flags_in, header_in, opened, bodies, offer_in, request_in, response_in, informational_in, body_in, decoded}
 use Rattle.wire.specs.Exact.{Valid, ValidOffer, ValidRequest, ValidFailure, ValidResponse, ValidBody}
 use Rattle.wire.proofs.Openings.{opened_cut}
 use Rattle.wire.specs.declared.message.Message.{Message}

@@ -1,5 +1,5 @@
 -- Octets put behind octets.
-use Rattle.std.proofs.Common.{◌≡◌, ℕ, ◌+◌, ◌≤◌, List, [], ◌∷◌, ◌++◌, length, take, sym, refl, ap, ◌∙◌, arith, length-append}
+use Rattle.std.proofs.Common.{◌≡◌, ℕ, ◌+◌, ◌≤◌, List, [], ◌∷◌, ◌++◌, length, take, sym, ap, ◌∙◌, arith, length-append}
 use Rattle.std.proofs.lemmas.List.{take_at, append_assoc, append-nil, length-take-le}
 use Rattle.octets.specs.Numbers.{be16}
 use Rattle.wire.specs.Messages.{Part, first_type, chain}

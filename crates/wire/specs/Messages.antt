@@ -1,5 +1,5 @@
 -- The octets of a message: the header, and the chain of its payloads.
-use Rattle.std.specs.Prelude.{ℕ, ◌+◌, ◌^◌, ◌<◌, ◌≤◌, List, [], ◌∷◌, ◌++◌, length}
+use Rattle.std.specs.Prelude.{ℕ, ◌+◌, List, [], ◌∷◌, ◌++◌, length}
 use Rattle.octets.specs.Numbers.{be16, be32, be64}
 use Rattle.wire.specs.Payloads.{sa_body, ts_body, rekey_body, failure_body, delete_body}
 use Rattle.wire.specs.declared.message.Message.{Message}

@@ -1,5 +1,6 @@
 //! The messages about Child SAs, and their octets.
 #![tactic(auto)]
+
 pub mod decode;
 pub mod encode;
 mod header;

@@ -6,13 +6,13 @@ use Rattle.childsa.proofs.hex.from_hex.Goals as goal
 
 pub loop-rest-init : goal.loop-rest-init
 loop-rest-init c =
-    ap (λ l. behind l (from_hex c.as-bytes-rest.result.now)) c.new-octets.ensures.items
+    ap (λ l. behind l (from_hex c.as_bytes-rest.result.now)) c.new-octets.ensures.items
     ∙ behind_none _
-    ∙ ap from_hex c.as-bytes-rest.ensures.value
+    ∙ ap from_hex c.as_bytes-rest.ensures.value
 
 pub loop-rest-preserved : goal.loop-rest-preserved
 loop-rest-preserved c =
-    let pushed = chosen _ _ _ _ c.push.ensures.items (ap is_ok c.in-ok-push.was) in
+    let pushed = chosen _ _ _ _ c.push.ensures.items (ap is_ok c.in_ok-push.was) in
     let rest = c.loop-rest.rest.now in
     ap (λ l. behind l (from_hex (take (length rest - 2) (drop 2 rest)))) pushed
     ∙ read_more _ c.in-Some.x rest (search rules) c.in-Some.ensures

@@ -4,12 +4,12 @@ use Rattle.nonce.specs.Nonces.{nonce_octets}
 use Rattle.childsa.proofs.Fronts.{front, shown}
 use Rattle.childsa.proofs.messages.octets_text.Goals as goal
 
-pub slice-bounds-to-hex-end : goal.slice-bounds-to-hex-end
-slice-bounds-to-hex-end c =
+pub slice_bounds-to_hex-end : goal.slice_bounds-to_hex-end
+slice_bounds-to_hex-end c =
     let f = front (plain nonce_octets c.args.message.now) _ c.in-Ok.len c.in-Ok.ensures.answer in
     omega (arith, f.room, c.encode.auto.out)
 
-pub returns-in-ok-to-hex : goal.returns-in-ok-to-hex
-returns-in-ok-to-hex c =
+pub returns-in_ok-to_hex : goal.returns-in_ok-to_hex
+returns-in_ok-to_hex c =
     shown (plain nonce_octets c.args.message.now) _ _ c.in-Ok.len _ c.in-Ok.ensures.answer
-    c.encode.ensures.buffer c.in-ok-to-hex.ensures
+    c.encode.ensures.buffer c.in_ok-to_hex.ensures

@@ -3,17 +3,17 @@ use Rattle.wire.specs.Decoding.{decoded}
 use Rattle.wire.proofs.Exactly.{one_encoding}
 use Rattle.wire.proofs.decode.decode.Goals as goal
 
-pub returns-then-not-is-sized : goal.returns-then-not-is-sized
+pub returns-then-not-is_sized : goal.returns-then-not-is_sized
 unfolding decoded
-returns-then-not-is-sized c = record { value = search rules; exact = one_encoding }
+returns-then-not-is_sized c = record { value = search rules; exact = one_encoding }
 
-pub returns-in-default : goal.returns-in-default
+pub returns-in_default : goal.returns-in_default
 unfolding decoded
-returns-in-default c = record { value = search rules; exact = one_encoding }
+returns-in_default c = record { value = search rules; exact = one_encoding }
 
-pub returns-in-err-body : goal.returns-in-err-body
+pub returns-in_err-body : goal.returns-in_err-body
 unfolding decoded
-returns-in-err-body c = record { value = search rules; exact = one_encoding }
+returns-in_err-body c = record { value = search rules; exact = one_encoding }
 
 pub returns : goal.returns
 unfolding decoded

@@ -6,13 +6,13 @@ pub returns-then-s-ne32 : goal.returns-then-s-ne32
 unfolding header_in
 returns-then-s-ne32 c = search rules
 
-pub returns-in-default : goal.returns-in-default
+pub returns-in_default : goal.returns-in_default
 unfolding header_in
-returns-in-default c = search rules
+returns-in_default c = search rules
 
-pub returns-in-default-flags-of : goal.returns-in-default-flags-of
+pub returns-in_default-flags_of : goal.returns-in_default-flags_of
 unfolding header_in
-returns-in-default-flags-of c = search rules
+returns-in_default-flags_of c = search rules
 
 pub returns : goal.returns
 unfolding header_in

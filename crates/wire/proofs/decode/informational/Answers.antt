@@ -6,13 +6,13 @@ pub returns-then-ends : goal.returns-then-ends
 unfolding informational_in
 returns-then-ends c = search rules
 
-pub returns-in-default : goal.returns-in-default
+pub returns-in_default : goal.returns-in_default
 unfolding informational_in
-returns-in-default c = search rules
+returns-in_default c = search rules
 
-pub returns-in-Some-deleted-in : goal.returns-in-Some-deleted-in
+pub returns-in-Some-deleted_in : goal.returns-in-Some-deleted_in
 unfolding informational_in
-returns-in-Some-deleted-in c = search rules
+returns-in-Some-deleted_in c = search rules
 
 pub returns-in-None : goal.returns-in-None
 unfolding informational_in

@@ -2,9 +2,9 @@ use Rattle.std.proofs.Common.{rules}
 use Rattle.wire.specs.Decoding.{offer_in}
 use Rattle.wire.proofs.decode.read_offer.Goals as goal
 
-pub returns-in-default : goal.returns-in-default
+pub returns-in_default : goal.returns-in_default
 unfolding offer_in
-returns-in-default c = search rules
+returns-in_default c = search rules
 
 pub returns-then-offer-lt16 : goal.returns-then-offer-lt16
 unfolding offer_in

@@ -1,10 +1,10 @@
-use Rattle.std.proofs.Common.{◌≡◌, ◌+◌, ◌*◌, ◌<◌, ◌≤◌, ◌⊎◌, length, get_or, refl, inl, inr, ⊎_elim, arith, rules}
+use Rattle.std.proofs.Common.{◌≡◌, ◌+◌, ◌*◌, ◌<◌, ◌≤◌, ◌⊎◌, length, get_or, refl, rules}
 use Rattle.octets.specs.Numbers.{half}
 use Rattle.wire.proofs.Openings.{not_opened, too_short, not_zero, wrong_length, opened_cut}
 use Rattle.wire.proofs.payload.open.Goals as goal
 
-pub returns-in-default : goal.returns-in-default
-returns-in-default c =
+pub returns-in_default : goal.returns-in_default
+returns-in_default c =
     let s = c.args.octets.now in
     let h : length s < 4 = search rules in
     not_opened s (too_short s h)
@@ -30,4 +30,4 @@ returns-else-len-behind c =
     let e : half s 2 ≤ length s = search rules in
     let n = c.from.result * 256 + c.from-in-0.result in
     let q : n ≡ half s 2 = search rules in
-    opened_cut s n _ _ _ q l z m e refl c.split-at.ensures.front c.split-at.ensures.back
+    opened_cut s n _ _ _ q l z m e refl c.split_at.ensures.front c.split_at.ensures.back

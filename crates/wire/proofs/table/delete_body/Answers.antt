@@ -3,4 +3,4 @@ use Rattle.wire.proofs.table.delete_body.Goals as goal
 
 pub returns : goal.returns
 unfolding delete_body
-returns c = simp c.to-be-bytes.ensures
+returns c = simp c.to_be_bytes.ensures

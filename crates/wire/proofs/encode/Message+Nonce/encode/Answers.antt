@@ -1,4 +1,4 @@
-use Rattle.std.proofs.Common.{◌≡◌, ◌<◌, ◌≤◌, length, ◌∙◌, arith}
+use Rattle.std.proofs.Common.{◌<◌, ◌≤◌, length, ◌∙◌, arith}
 use Rattle.wire.specs.Messages.{plain}
 use Rattle.nonce.specs.Nonces.{nonce_octets}
 use Rattle.wire.proofs.Writings.{refused_answer, refused_buffer, written_answer, written_buffer}
@@ -8,20 +8,20 @@ pub returns-then-out-len : goal.returns-then-out-len
 returns-then-out-len c =
     let m = plain nonce_octets c.args.self.now in
     let out = c.args.out.now in
-    let s = c.as-slice-octets.result.now in
-    let e = c.as-slice-octets.ensures ∙ c.text-of-text.ensures.octets in
+    let s = c.as_slice-octets.result.now in
+    let e = c.as_slice-octets.ensures ∙ c.text_of-text.ensures.octets in
     let short : length out < length s = omega arith in
-    record { answer = refused_answer m out s e short; buffer = refused_buffer m out s e short; valid = c.text-of-text.ensures.valid }
+    record { answer = refused_answer m out s e short; buffer = refused_buffer m out s e short; valid = c.text_of-text.ensures.valid }
 
 pub returns : goal.returns
 returns c =
     let m = plain nonce_octets c.args.self.now in
     let out = c.args.out.now in
-    let s = c.as-slice-octets.result.now in
-    let e = c.as-slice-octets.ensures ∙ c.text-of-text.ensures.octets in
+    let s = c.as_slice-octets.result.now in
+    let e = c.as_slice-octets.ensures ∙ c.text_of-text.ensures.octets in
     let room : length s ≤ length out = omega arith in
     record {
       answer = written_answer m out s e room;
-      buffer = written_buffer m out s e room c.copy-from-slice.new.self c.copy-from-slice.ensures.after;
-      valid = c.text-of-text.ensures.valid;
+      buffer = written_buffer m out s e room c.copy_from_slice.new.self c.copy_from_slice.ensures.after;
+      valid = c.text_of-text.ensures.valid;
     }

@@ -5,7 +5,7 @@ use Rattle.wire.proofs.text.Text.push.Goals as goal
 pub returns : goal.returns
 returns c = record {
   octets =
-      copied_behind c.args.self.now.len _ c.args.self.now.octets c.copy-from-slice.new.self
-      c.args.part.now _ c.copy-from-slice.ensures.after (omega arith) refl;
+      copied_behind c.args.self.now.len _ c.args.self.now.octets c.copy_from_slice.new.self
+      c.args.part.now _ c.copy_from_slice.ensures.after (omega arith) refl;
   len = refl;
 }

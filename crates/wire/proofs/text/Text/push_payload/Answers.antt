@@ -12,10 +12,10 @@ returns c =
     let w = octets_in c.push-3.new.self in
     let b = c.args.body.now in
     let n = be16 (4 + length b) in
-    let e : v ≡ u ++ n = c.push-2.ensures.octets ∙ ap (λ x. u ++ x) c.to-be-bytes.ensures in
+    let e : v ≡ u ++ n = c.push-2.ensures.octets ∙ ap (λ x. u ++ x) c.to_be_bytes.ensures in
     record {
       octets =
           then_pushed t v w _ b (then_pushed t u v (c.args.next ∷ 0 ∷ []) n c.push.ensures.octets e)
           c.push-3.ensures.octets;
-      len = omega (arith, ap length c.to-be-bytes.ensures);
+      len = omega (arith, ap length c.to_be_bytes.ensures);
     }
