@@ -2,6 +2,7 @@
 //!
 //! The script is the file that the one argument names or, without one, the standard input.
 #![tactic(auto)]
+
 mod any_book;
 mod books;
 mod bottom;
@@ -20,7 +21,7 @@ mod wrong;
 use commands::answer;
 use desk::Desk;
 use fault::Fault;
-use std::io::{BufRead, BufReader};
+use std::io::{BufRead, BufReader, Read};
 use std::{env, fs};
 use wrong::Stop;
 
@@ -68,13 +69,21 @@ fn script_name(rt: &HostRuntime) -> Result<Option<String>, Fault> {
     }
 }
 
+/// Answers a script that is read through a buffer.
+fn answer_buffered<R: Read + Drop>(rt: &HostRuntime, script: R) -> Result<(), Fault> {
+    match BufReader::new(rt.alloc(), script) {
+        Ok(reader) => answer_all(rt, reader),
+        Err(_) => Err(Fault::Memory),
+    }
+}
+
 /// Answers the script that the arguments name.
 fn run(rt: &HostRuntime) -> Result<(), Fault> {
     let Some(name) = script_name(rt)? else {
-        return answer_all(rt, BufReader::new(rt.stdin()));
+        return answer_buffered(rt, rt.stdin());
     };
     match fs::open(rt, name.as_str()) {
-        Ok(file) => answer_all(rt, BufReader::new(file)),
+        Ok(file) => answer_buffered(rt, file),
         Err(error) => Err(Fault::Open { name, error }),
     }
 }

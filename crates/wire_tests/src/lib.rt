@@ -94,7 +94,7 @@ mod tests {
                 Body::Request(Request::Rekey { old, spi, nonce }) => {
                     assert_eq!(rt; old, 1000);
                     assert_eq!(rt; spi, 1001);
-                    assert!(rt; nonce == &[0x44; 16]);
+                    assert!(rt; nonce == [0x44; 16].as_slice());
                     Ok(())
                 }
                 _ => Err(Fail::new("another message")),
@@ -127,7 +127,7 @@ mod tests {
         let Some(long) = Nonce::new(&[0x11; 17]) else {
             return Err(Fail::new("no nonce"));
         };
-        assert!(rt; lower(&long, &short) == &[0x11; 16]);
+        assert!(rt; lower(&long, &short) == [0x11; 16].as_slice());
         Ok(())
     }
 
