@@ -1,6 +1,6 @@
 -- A check answered.
 use Rattle.std.proofs.Common.{◌≡◌, ℕ, arith}
-use Rattle.protocol.specs.Model.{with_link, lost, met, check, done, sent, answered, End}
+use Rattle.protocol.specs.Model.{with_link, check, done, sent, answered, End}
 use Rattle.protocol.specs.Invariant.{Half, Row, Own, Faced, Request, Worn, Clash, Made, Rekeyed, Given, Met}
 
 module _ (P Q : End) (was : P.link ≡ sent check) where

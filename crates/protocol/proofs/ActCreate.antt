@@ -1,6 +1,6 @@
 -- A create answered with a new row.
 use Rattle.std.proofs.Common.{◌≡◌, ℕ, None, arith}
-use Rattle.protocol.specs.Model.{Nonce, Seed, born, with_link, with_child, lost, met, create, made, sent, answered, End}
+use Rattle.protocol.specs.Model.{Nonce, Seed, born, with_link, with_child, create, made, sent, answered, End}
 use Rattle.protocol.proofs.Common.{fresh_key, fresh_child}
 use Rattle.protocol.specs.Invariant.{Half, Row, Own, Faced, Request, Worn, Clash, Known, Made, Rekeyed, Given, Used, Kept, Lost, Collided, Met}
 

@@ -1,7 +1,7 @@
 -- A rekey answered with a new row: the old one is superseded.
 use Rattle.std.proofs.Common.{◌≡◌, ℕ, ◌<◌, Bool, true, false, cond, eqb, Some, None, Option, arith}
 use Rattle.std.proofs.lemmas.Bool.{eqb-true}
-use Rattle.protocol.specs.Model.{Nonce, standing, superseded, Sa, Seed, live, put, born, noted, with_link, with_child, lost, Coll, met, create, rekey, delete, check, made, no_such, refused, done, Link, quiet, sent, answered, End}
+use Rattle.protocol.specs.Model.{Nonce, standing, superseded, Sa, Seed, live, put, born, noted, with_link, with_child, Coll, create, rekey, delete, check, made, no_such, refused, done, Link, quiet, sent, answered, End}
 use Rattle.protocol.proofs.Common.{fresh_key, fresh_child, heir_map, heir_then, heir_put, heir_new, left_noted, seen_noted, seen_kept, pair, old_cell, OldSupersededOrStanding}
 use Rattle.protocol.specs.Invariant.{Half, Row, Own, Faced, Request, Worn, Clash, Known, Made, Rekeyed, Given, Used, Kept, Lost, Collided, Met, LinkOwned, LinkClash, Heir, HeirAt, ParentLeft, Seen, WornOut, ChildAt, CollidedAt, NotStanding, Loses}
 

@@ -1,6 +1,6 @@
 -- An end asks whether the peer is alive.
 use Rattle.std.proofs.Common.{◌≡◌, ℕ, arith}
-use Rattle.protocol.specs.Model.{with_link, lost, met, check, quiet, sent, End}
+use Rattle.protocol.specs.Model.{with_link, check, quiet, sent, End}
 use Rattle.protocol.specs.Invariant.{Half, Row, Own, Faced, Request, Worn, Clash, Made, Rekeyed, Given, Met}
 
 module _ (P Q : End) (was : P.link ≡ quiet) where

@@ -1,6 +1,6 @@
 -- An end asks for a new SA.
 use Rattle.std.proofs.Common.{◌≡◌, ℕ, None, arith}
-use Rattle.protocol.specs.Model.{Nonce, opening, plain, with_new, lost, met, create, quiet, sent, End}
+use Rattle.protocol.specs.Model.{Nonce, opening, plain, with_new, create, quiet, sent, End}
 use Rattle.protocol.proofs.Common.{fresh_key}
 use Rattle.protocol.specs.Invariant.{Half, Row, Own, Faced, Request, Worn, Clash, Known, Made, Rekeyed, Given, Used, Kept, Collided, Met}
 

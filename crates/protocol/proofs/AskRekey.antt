@@ -1,6 +1,6 @@
 -- An end asks for a rekey of a standing row.
 use Rattle.std.proofs.Common.{◌≡◌, ℕ, true, Some, None, arith}
-use Rattle.protocol.specs.Model.{standing, Sa, Seed, opening, live, with_new, giving, given-up, lost, alone, met, rekey, quiet, sent, End}
+use Rattle.protocol.specs.Model.{standing, Sa, Seed, opening, live, with_new, giving, given-up, alone, rekey, quiet, sent, End}
 use Rattle.protocol.proofs.Common.{fresh_key}
 use Rattle.protocol.specs.Invariant.{Half, Row, Own, Faced, Request, Worn, Clash, Known, Made, Rekeyed, Given, Used, Kept, Lost, Collided, Met}
 

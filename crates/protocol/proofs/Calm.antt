@@ -1,6 +1,6 @@
 -- An end that processes a request takes its fresh rows for standing ones.
 use Rattle.std.proofs.Common.{◌≡◌, ℕ, arith}
-use Rattle.protocol.specs.Model.{calm, with_book, lost, met, Ask, sent, End}
+use Rattle.protocol.specs.Model.{calm, with_book, Ask, sent, End}
 use Rattle.protocol.specs.Invariant.{Half, Row, Own, Faced, Request, Worn, Clash, Known, Made, Rekeyed, Kept, Collided}
 
 module _ (P Q : End) (a : Ask) (was : P.link ≡ sent a) where

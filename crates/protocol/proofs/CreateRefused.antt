@@ -1,6 +1,6 @@
 -- The reply that refuses a create.
 use Rattle.std.proofs.Common.{◌≡◌, ℕ, None, arith}
-use Rattle.protocol.specs.Model.{Seed, put, with_both, lost, met, create, refused, quiet, answered, End}
+use Rattle.protocol.specs.Model.{Seed, put, with_both, create, refused, quiet, answered, End}
 use Rattle.protocol.specs.Invariant.{Half, Row, Own, Faced, Request, Worn, Clash, Known, Made, Rekeyed, Given, Kept, Collided, Met}
 
 module _ (P Q : End) (o : ℕ) (d : Seed) (was : P.link ≡ answered (create o d) refused) where

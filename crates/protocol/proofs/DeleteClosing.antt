@@ -1,6 +1,6 @@
 -- A delete of an SA that the answerer is closing itself.
 use Rattle.std.proofs.Common.{◌≡◌, ℕ, Some, arith}
-use Rattle.protocol.specs.Model.{closing, Sa, live, with_link, lost, met, delete, done, sent, answered, End}
+use Rattle.protocol.specs.Model.{closing, Sa, live, with_link, delete, done, sent, answered, End}
 use Rattle.protocol.specs.Invariant.{Half, Row, Own, Faced, Request, Worn, Clash, Made, Rekeyed, Given, Met}
 
 module _ (P Q : End) (x q : ℕ) (b : Sa) (was : P.link ≡ sent (delete x)) (row : Q.book q ≡ Some (live closing b)) (is : b.peer ≡ x) where

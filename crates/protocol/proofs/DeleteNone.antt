@@ -1,6 +1,6 @@
 -- A delete of an SA that the answerer has not.
 use Rattle.std.proofs.Common.{◌≡◌, ℕ, arith}
-use Rattle.protocol.specs.Model.{NoRowFor, with_link, lost, met, delete, done, sent, answered, End}
+use Rattle.protocol.specs.Model.{NoRowFor, with_link, delete, done, sent, answered, End}
 use Rattle.protocol.specs.Invariant.{Half, Row, Own, Faced, Request, Worn, Clash, Made, Rekeyed, Given, Met}
 
 module _ (P Q : End) (x : ℕ) (was : P.link ≡ sent (delete x)) (none : (j : ℕ) → NoRowFor x (Q.book j)) where

@@ -1,6 +1,6 @@
 -- A delete answered by taking the row away.
 use Rattle.std.proofs.Common.{◌≡◌, ℕ, Some, None, arith}
-use Rattle.protocol.specs.Model.{St, closing, Sa, live, put, with_link, with_book, lost, met, delete, done, sent, answered, End}
+use Rattle.protocol.specs.Model.{St, closing, Sa, live, put, with_link, with_book, delete, done, sent, answered, End}
 use Rattle.protocol.specs.Invariant.{Half, Row, Own, Faced, Request, Worn, Clash, Known, Made, Rekeyed, Given, Kept, Collided, Met}
 
 module _ (P Q : End) (x q : ℕ) (t : St) (b : Sa) (was : P.link ≡ sent (delete x)) (row : Q.book q ≡ Some (live t b)) (stays : t ≡ closing → ⊥) (is : b.peer ≡ x) where

@@ -1,6 +1,6 @@
 -- A create refused.
 use Rattle.std.proofs.Common.{◌≡◌, ℕ, arith}
-use Rattle.protocol.specs.Model.{Seed, with_link, lost, met, create, refused, sent, answered, End}
+use Rattle.protocol.specs.Model.{Seed, with_link, create, refused, sent, answered, End}
 use Rattle.protocol.specs.Invariant.{Half, Row, Own, Faced, Request, Worn, Clash, Made, Rekeyed, Given, Met}
 
 module _ (P Q : End) (o : ℕ) (d : Seed) (was : P.link ≡ sent (create o d)) where

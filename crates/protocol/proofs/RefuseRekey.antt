@@ -1,6 +1,6 @@
 -- A rekey refused.
 use Rattle.std.proofs.Common.{◌≡◌, ℕ, arith}
-use Rattle.protocol.specs.Model.{Seed, with_link, lost, Coll, met, rekey, refused, sent, answered, End}
+use Rattle.protocol.specs.Model.{Seed, with_link, Coll, rekey, refused, sent, answered, End}
 use Rattle.protocol.specs.Invariant.{Half, Row, Own, Faced, Request, Worn, Clash, Made, Rekeyed, Given, Met}
 
 module _ (P Q : End) (o : ℕ) (d : Seed) (c : Coll) (was : P.link ≡ sent (rekey o d c)) where

@@ -1,6 +1,6 @@
 -- The reply to a rekey that met the peer's and lost: the new SA goes.
 use Rattle.std.proofs.Common.{◌≡◌, ℕ, true, not, Some, arith}
-use Rattle.protocol.specs.Model.{Nonce, closing, Sa, Seed, opening, live, put, grown, lose, noted, with_both, giving, lost, met, create, rekey, delete, check, made, no_such, refused, done, Link, quiet, sent, answered, End}
+use Rattle.protocol.specs.Model.{Nonce, closing, Sa, Seed, opening, live, put, grown, lose, with_both, giving, lost, met, create, rekey, delete, check, made, no_such, refused, done, Link, quiet, sent, answered, End}
 use Rattle.protocol.proofs.Common.{heir_map, one_loses}
 use Rattle.protocol.specs.Invariant.{Half, Row, Own, Faced, Request, Worn, Clash, Known, Made, Rekeyed, Given, Used, Kept, Lost, Collided, Met, LinkOwned, LinkFaced, LinkClash, Heir, ParentLeft, WornOut}
 

@@ -1,6 +1,6 @@
 -- The reply that the peer has not the old SA: both rows go.
 use Rattle.std.proofs.Common.{◌≡◌, ℕ, None, arith}
-use Rattle.protocol.specs.Model.{Seed, put, with_both, lost, Coll, met, rekey, no_such, quiet, answered, End}
+use Rattle.protocol.specs.Model.{Seed, put, with_both, Coll, rekey, no_such, quiet, answered, End}
 use Rattle.protocol.proofs.Common.{NotFresh, request_drop, dropped_not_fresh, opening_not_fresh, old_not_fresh}
 use Rattle.protocol.specs.Invariant.{Half, Row, Own, Faced, Request, Worn, Clash, Known, Made, Rekeyed, Given, Kept, Collided, Met}
 

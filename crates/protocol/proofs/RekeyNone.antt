@@ -1,6 +1,6 @@
 -- A rekey of an SA that the answerer has not.
 use Rattle.std.proofs.Common.{◌≡◌, ℕ, arith}
-use Rattle.protocol.specs.Model.{Seed, NoRowFor, with_link, lost, Coll, met, rekey, no_such, sent, answered, End}
+use Rattle.protocol.specs.Model.{Seed, NoRowFor, with_link, Coll, rekey, no_such, sent, answered, End}
 use Rattle.protocol.specs.Invariant.{Half, Row, Own, Faced, Request, Worn, Clash, Made, Rekeyed, Given, Met}
 
 module _ (P Q : End) (o : ℕ) (d : Seed) (c : Coll) (was : P.link ≡ sent (rekey o d c)) (none : (j : ℕ) → NoRowFor d.po (Q.book j)) where

@@ -1,6 +1,6 @@
 -- The reply that refuses a rekey.
 use Rattle.std.proofs.Common.{◌≡◌, ℕ, None, arith}
-use Rattle.protocol.specs.Model.{Seed, put, with_both, lost, Coll, met, rekey, refused, quiet, answered, End}
+use Rattle.protocol.specs.Model.{Seed, put, with_both, Coll, rekey, refused, quiet, answered, End}
 use Rattle.protocol.specs.Invariant.{Half, Row, Own, Faced, Request, Worn, Clash, Known, Made, Rekeyed, Given, Kept, Collided, Met}
 
 module _ (P Q : End) (o : ℕ) (d : Seed) (c : Coll) (was : P.link ≡ answered (rekey o d c) refused) where

@@ -1,6 +1,6 @@
 -- The reply to a rekey that stands: the old SA goes.
 use Rattle.std.proofs.Common.{◌≡◌, ℕ, false, not, Some, None, Option, arith}
-use Rattle.protocol.specs.Model.{Nonce, St, fresh, standing, closing, Sa, Seed, opening, live, put, born, grown, loses, noted, with_both, lost, Coll, alone, met, create, rekey, delete, check, made, no_such, refused, done, Link, quiet, sent, answered, End}
+use Rattle.protocol.specs.Model.{Nonce, St, fresh, standing, closing, Sa, Seed, opening, live, put, born, grown, loses, with_both, Coll, alone, met, create, rekey, delete, check, made, no_such, refused, done, Link, quiet, sent, answered, End}
 use Rattle.protocol.proofs.Common.{heir_map, heir_then, Owns, request_grow, request_close, one_loses}
 use Rattle.protocol.specs.Invariant.{Half, Row, Own, Faced, Request, Worn, Clash, Known, Made, Rekeyed, Given, Kept, Collided, Met, LinkOwned, LinkFaced, LinkClash, Heir, HeirAt, ParentLeft, Seen, ChildAt, Child, CollidedAt, NotStanding, Loses}
 

@@ -1,6 +1,6 @@
 -- The reply to a check.
 use Rattle.std.proofs.Common.{◌≡◌, ℕ, arith}
-use Rattle.protocol.specs.Model.{with_both, lost, met, check, Reply, quiet, answered, End}
+use Rattle.protocol.specs.Model.{with_both, check, Reply, quiet, answered, End}
 use Rattle.protocol.specs.Invariant.{Half, Row, Own, Faced, Request, Worn, Clash, Known, Made, Rekeyed, Given, Kept, Collided, Met}
 
 module _ (P Q : End) (r : Reply) (was : P.link ≡ answered check r) where

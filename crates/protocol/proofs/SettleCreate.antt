@@ -1,6 +1,6 @@
 -- The reply to a create that made an SA.
 use Rattle.std.proofs.Common.{◌≡◌, ℕ, Some, arith}
-use Rattle.protocol.specs.Model.{Nonce, standing, Seed, live, put, grown, with_both, lost, met, create, made, quiet, answered, End}
+use Rattle.protocol.specs.Model.{Nonce, standing, Seed, live, put, grown, with_both, create, made, quiet, answered, End}
 use Rattle.protocol.specs.Invariant.{Half, Row, Own, Faced, Request, Worn, Clash, Known, Made, Rekeyed, Given, Kept, Collided, Met}
 
 module _ (P Q : End) (o : ℕ) (d : Seed) (k₁ : ℕ) (n : Nonce) (was : P.link ≡ answered (create o d) (made k₁ n)) where

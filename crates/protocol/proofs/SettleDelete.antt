@@ -1,6 +1,6 @@
 -- The reply to a delete.
 use Rattle.std.proofs.Common.{◌≡◌, ℕ, None, arith}
-use Rattle.protocol.specs.Model.{put, with_both, lost, met, delete, Reply, quiet, answered, End}
+use Rattle.protocol.specs.Model.{put, with_both, delete, Reply, quiet, answered, End}
 use Rattle.protocol.specs.Invariant.{Half, Row, Own, Faced, Request, Worn, Clash, Known, Made, Rekeyed, Given, Kept, Collided, Met}
 
 module _ (P Q : End) (x : ℕ) (r : Reply) (was : P.link ≡ answered (delete x) r) where
