@@ -4,5 +4,5 @@ use Rattle.channel.proofs.marker.pass_on.Goals as goal
 
 pub returns : goal.returns
 returns c =
-    passed_on c.args.datagram.now c.args.buffer.now c.copy-from-slice.new.self
-    (sym c.if-not-is-marked.ensures) c.copy-from-slice.ensures.after
+    passed_on c.args.datagram.now c.args.buffer.now c.copy_from_slice.new.self
+    (sym c.if-not-is_marked.ensures) c.copy_from_slice.ensures.after

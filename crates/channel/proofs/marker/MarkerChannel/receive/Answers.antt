@@ -3,8 +3,8 @@ use Rattle.channel.specs.Marks.{Unmarks}
 use Rattle.channel.specs.Marking.{unmarks_received, deep, none_below, some_none}
 use Rattle.channel.proofs.marker.MarkerChannel.receive.Goals as goal
 
-pub pass-on-requires : goal.pass-on-requires
-pass-on-requires g c =
+pub pass_on-requires : goal.pass_on-requires
+pass_on-requires g c =
     let k = c.in-Some.len in
     let room = c.receive.new.buffer in
     let z : k - 0 ≡ k = omega arith in
@@ -17,18 +17,18 @@ returns-in-Some g c =
     let n = g.C.Channel.meaning c.receive.new.self in
     let sound = g.met.C.Channel.sound c.args.self.now.below in
     let was = c.args.buffer.now in
-    let is = c.pass-on.new.buffer in
+    let is = c.pass_on.new.buffer in
     let z : c.in-Some.len - 0 ≡ c.in-Some.len = omega arith in
-    let u : Unmarks m n c.args.at was is c.pass-on.result =
+    let u : Unmarks m n c.args.at was is c.pass_on.result =
     record {
       room = c.receive.new.buffer;
       came = Some c.in-Some.len;
       below = c.in-Some.ensures.effect;
-      passes = rw z at c.pass-on.ensures;
+      passes = rw z at c.pass_on.ensures;
     }
     in
     record {
-      effect = unmarks_received m n c.args.at was is c.pass-on.result sound (omega arith) u;
+      effect = unmarks_received m n c.args.at was is c.pass_on.result sound (omega arith) u;
       short = λ l. absurd (omega arith);
       idle = λ l e.
           let b = deep m l in
