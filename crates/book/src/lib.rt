@@ -1,7 +1,8 @@
 //! What one end of an IKE SA files of its Child SAs: rows, and the book that holds them.
 #![tactic(auto)]
+
 ghost use Rattle.std.specs.Prelude.{◌≡◌, length};
-ghost use Rattle.book.specs.Shelves.{Shelf, Orderly, put_in, written_in, removed_from, read_in, find as found_in, next as next-in, book_number};
+ghost use Rattle.book.specs.Shelves.{Shelf, Orderly, put_in, written_in, removed_from, read_in, find as found_in, next as next_in, book_number};
 
 use row::Row;
 
@@ -66,7 +67,7 @@ pub trait Book {
 
     /// The lowest own SPI above this one.
     fn next(&self, own: u32) -> Option<u32>
-        ensures { result ≡ next-in (shelf self.now).rows own };
+        ensures { result ≡ next_in (shelf self.now).rows own };
 
     /// Own SPIs rise strictly, none is reserved, and there are no more rows than there can be.
     ghost orderly: { (b : Self) → Orderly (shelf b) };

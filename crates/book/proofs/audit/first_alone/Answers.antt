@@ -12,8 +12,8 @@ loop-row-init g c =
 pub loop-row-smaller : goal.loop-row-smaller
 loop-row-smaller g c = fewer 255 _ _ _ (g.met.P.Book.orderly c.args.book.now).rises c.in-Some.ensures
 
-pub returns-then-not-has-mirror : goal.returns-then-not-has-mirror
-returns-then-not-has-mirror g c =
+pub returns-then-not-has_mirror : goal.returns-then-not-has_mirror
+returns-then-not-has_mirror g c =
     let s = steps 255 _ _ _ (g.met.P.Book.orderly c.args.book.now).rises c.in-Some.ensures in
     sym (alone_here _ _ _ _ s (search rules)) ∙ c.loop-row.invariant
 
@@ -25,5 +25,5 @@ loop-row-preserved g c =
 pub returns : goal.returns
 returns g c =
     ap (λ rs. alone rs (g.Q.Book.shelf c.args.other.now).rows)
-    (sym (ended (g.P.Book.shelf c.args.book.now).rows c.loop-row.last c.in-default.ensures))
+    (sym (ended (g.P.Book.shelf c.args.book.now).rows c.loop-row.last c.in_default.ensures))
     ∙ c.loop-row.invariant

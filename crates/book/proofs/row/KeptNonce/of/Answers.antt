@@ -3,4 +3,4 @@ use Rattle.book.proofs.Kept.{copied}
 use Rattle.book.proofs.row.KeptNonce.of.Goals as goal
 
 pub returns : goal.returns
-returns c = copied _ c.copy-from-slice.new.self _ (c.copy-from-slice.ensures.after ∙ c.as-slice-from.ensures.value) (search rules)
+returns c = copied _ c.copy_from_slice.new.self _ (c.copy_from_slice.ensures.after ∙ c.as_slice-from.ensures.value) (search rules)
