@@ -1,5 +1,6 @@
 //! A book that keeps its rows in an array by rising own SPI.
 #![tactic(auto)]
+
 ghost use Rattle.std.specs.Prelude.{◌≡◌, ◌≤◌, true, length, take};
 ghost use Rattle.ordered.specs.Places.{rises};
 
