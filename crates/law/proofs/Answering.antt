@@ -23,7 +23,7 @@ use Rattle.protocol.specs.Node.{Bar, unusable, no_more, Out, idle, asked, Node}
 use Rattle.protocol.specs.Rows.{Line, insert, remove, calm_lines, Found, nowhere, at, find}
 use Rattle.line.specs.Calls as calls
 use Rattle.law.specs.Cells.{sa_of, cell_of, lines}
-use Rattle.law.specs.Ends.{End, Outstanding, Collision, is_spent, response_octets, replying}
+use Rattle.law.specs.Ends.{End, Outstanding, Collision, is_spent, response_octets}
 use Rattle.law.specs.Asks.{Doing}
 use Rattle.law.specs.Rows.{none, fresh_row, in_state, calm_shelf, with_row, rewritten, without}
 use Rattle.law.specs.Requests as requests

@@ -1,6 +1,6 @@
 -- An ask of an end is one of its node.
-use Rattle.std.proofs.Common.{◌≡◌, ℕ, suc, ◌^◌, ◌<◌, ◌≤◌, Bool, true, false, cond, not, eqb, ltb, leb, List, [], ◌∷◌, length, is_some, Some, None, Ok, Err, Option, Result, sym, refl, ap, ◌∙◌, subst, arith}
-use Rattle.std.proofs.lemmas.Bool.{ne_eqb, not-true, not-false, ltb-true, ltb-false, leb-false, leb-true, true≢false, both_ways}
+use Rattle.std.proofs.Common.{◌≡◌, ℕ, suc, ◌^◌, ◌<◌, ◌≤◌, Bool, true, false, not, eqb, List, length, is_some, Some, None, Ok, Option, sym, refl, ap, ◌∙◌, subst, arith}
+use Rattle.std.proofs.lemmas.Bool.{ne_eqb, not-true, leb-false, both_ways}
 use Rattle.std.proofs.lemmas.Bool.Decides.{nat_tests}
 use Rattle.nonce.specs.Nonces.{nonce_long}
 use Rattle.book.specs.Rows.{kept, kept_octets}
@@ -15,7 +15,7 @@ use Rattle.book.specs.declared.row.RowState.{RowState}
 use Rattle.book.specs.declared.row.RowState.TheVariants as state
 use Rattle.wire.specs.declared.message.Response.{Response}
 use Rattle.protocol.specs.Model.{Seed, opening, live, standing, closing, Ask, create, rekey, delete, check, alone, plain}
-use Rattle.protocol.specs.Node.{Out, idle, asked, Node, sending}
+use Rattle.protocol.specs.Node.{idle, asked, sending}
 use Rattle.protocol.specs.Rows.{lookup, insert}
 use Rattle.line.specs.Calls.{Want, to_create, to_rekey, to_delete, to_check, ask, wire}
 use Rattle.law.specs.Cells.{sa_of, cell_of, cell_in, lines}
@@ -28,10 +28,9 @@ use Rattle.wire.specs.declared.message.Request.TheVariants as request
 use Rattle.std.proofs.lemmas.List.{take_at}
 use Rattle.law.specs.Asks as asks
 use Rattle.law.specs.Asks.{by_state, of_row}
-use Rattle.calls.specs.declared.refusals.AskRefusal.TheVariants as refusal
 use Rattle.calls.specs.declared.refusals.AskRefusal.{AskRefusal}
 use Rattle.law.proofs.Cells.{lines_lookup, lines_insert, lines_replace}
-use Rattle.law.proofs.Tied.{node, OutTied, Tied, SameName, Below, RowBegun, Begun, below_absent, below_more, below_insert, below_replace, begun_insert, begun_replace}
+use Rattle.law.proofs.Tied.{node, Tied, SameName, Below, RowBegun, Begun, below_absent, below_more, below_insert, below_replace, begun_insert, begun_replace}
 
 -- a nonce in a row is what was put there
 pub kept_back : (n : List ℕ) → nonce_long n ≡ true → kept_octets (kept n) ≡ n

@@ -1,5 +1,5 @@
 -- An ask or a resend of an end is one of its node.
-use Rattle.std.proofs.Common.{◌≡◌, ℕ, suc, ◌^◌, ◌<◌, ◌≤◌, Bool, true, false, not, List, [], Some, None, Ok, Err, Option, Result, sym, refl, ap, ◌∙◌, subst, arith}
+use Rattle.std.proofs.Common.{◌≡◌, ℕ, ◌^◌, ◌<◌, List, Some, None, Ok, Err, Option, Result, sym, refl, ◌∙◌, subst, arith}
 use Rattle.nonce.specs.declared.side.Side.{Side}
 use Rattle.channel.specs.Meaning.{Meaning, other}
 use Rattle.channel.specs.declared.sent.Sent.{Sent as Taking}
@@ -26,7 +26,7 @@ use Rattle.law.specs.Asks.{Asked, Doing, resend_asked}
 use Rattle.law.specs.Effects as effects
 use Rattle.law.proofs.Asking.{Asks}
 use Rattle.law.proofs.Sending.{Named, request_code, sent}
-use Rattle.law.proofs.Tied.{node, OutTied, AskTied, Tied, SameName}
+use Rattle.law.proofs.Tied.{node, OutTied, Tied, SameName}
 
 -- the call and the answer, as the line has them
 abbrev pub call_of : Call (List ℕ) → line.Call

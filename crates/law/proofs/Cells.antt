@@ -1,14 +1,14 @@
 -- What is done to rows is done to their cells.
-use Rattle.std.proofs.Common.{◌≡◌, ℕ, ◌<◌, ◌≤◌, Bool, true, false, cond, not, ◌&&◌, eqb, ltb, List, [], ◌∷◌, is_some, Some, None, Option, sym, refl, ap, ◌∙◌, arith}
+use Rattle.std.proofs.Common.{◌≡◌, ℕ, ◌≤◌, Bool, true, false, cond, not, ◌&&◌, eqb, List, [], ◌∷◌, is_some, Some, None, Option, sym, refl, ap, ◌∙◌, arith}
 use Rattle.std.proofs.lemmas.Bool.Decides.{nat_tests}
 use Rattle.book.specs.Shelves as shelf
 use Rattle.book.specs.Shelves.{Rising, has}
 use Rattle.book.specs.declared.row.Row.{Row}
 use Rattle.book.specs.declared.row.RowState.{RowState}
 use Rattle.book.specs.declared.row.RowState.TheVariants as state
-use Rattle.protocol.specs.Model.{Cell, fresh, standing, superseded, closing}
-use Rattle.protocol.specs.Rows.{Line, lookup, insert, remove, calm_lines, calmed_cell, find, here_or, Found, nowhere, at}
-use Rattle.law.specs.Cells.{sa_of, cell_of, cell_by, cell_in, line_of, lines}
+use Rattle.protocol.specs.Model.{fresh, standing, superseded, closing}
+use Rattle.protocol.specs.Rows.{lookup, insert, remove, calm_lines, calmed_cell, find, here_or, Found, nowhere, at}
+use Rattle.law.specs.Cells.{sa_of, cell_of, cell_by, cell_in, lines}
 use Rattle.law.specs.Requests.{row_at, found}
 use Rattle.book.specs.Rows.{is_opening}
 use Rattle.book.proofs.Lookups.{lookup_below}

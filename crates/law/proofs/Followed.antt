@@ -1,5 +1,5 @@
 -- Every run of two ends is a run of their nodes.
-use Rattle.std.proofs.Common.{◌≡◌, ℕ, suc, ◌^◌, ◌<◌, ◌≤◌, Bool, true, false, not, ◌⊎◌, List, [], ◌∷◌, Some, None, Option, sym, refl, ap, ◌∙◌, subst, inl, inr, ⊎_elim, arith}
+use Rattle.std.proofs.Common.{◌≡◌, ℕ, ◌^◌, ◌<◌, false, List, [], ◌∷◌, Some, None, Option, sym, refl, ap, ◌∙◌, subst, inl, inr, ⊎_elim, arith}
 use Rattle.nonce.specs.declared.side.Side.{Side}
 use Rattle.nonce.specs.declared.side.Side.TheVariants.{A, B}
 use Rattle.book.specs.Rows.{is_opening}
@@ -13,7 +13,7 @@ use Rattle.channel.specs.Meaning.{Meaning, other}
 use Rattle.calls.specs.declared.answers.Answer.{Answer}
 use Rattle.calls.specs.declared.moves.Move.{Move}
 use Rattle.wire.specs.declared.message.Response.{Response}
-use Rattle.protocol.specs.Model.{St, fresh, standing, superseded, closing, Sa, Cell, live}
+use Rattle.protocol.specs.Model.{St, fresh, standing, superseded, closing, Sa, live}
 use Rattle.protocol.specs.Node.{Out, Node}
 use Rattle.protocol.specs.Rows.{lookup}
 use Rattle.line.specs.Calls.{Coding, Msg, Good}
@@ -29,7 +29,7 @@ use Rattle.law.specs.Cells.{is_mine, sa_of, cell_by, cell_of, cell_in, lines}
 use Rattle.law.specs.Ends.{End}
 use Rattle.law.specs.Runs.{World, at, Called, Step, Run, ever}
 use Rattle.law.specs.Laws.{MadeAt}
-use Rattle.law.proofs.Calling.{call_of, answer_of, Does}
+use Rattle.law.proofs.Calling.{call_of, answer_of}
 use Rattle.law.proofs.Cells.{lines_lookup}
 use Rattle.law.proofs.Sending.{Named}
 use Rattle.law.proofs.Simulated.{called_does}

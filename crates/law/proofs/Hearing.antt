@@ -1,11 +1,10 @@
 -- A delivery to an end is one to its node.
-use Rattle.std.proofs.Common.{◌≡◌, ℕ, suc, ◌^◌, ◌<◌, ◌≤◌, Bool, true, false, cond, not, eqb, List, [], Some, None, Ok, Err, Option, Result, sym, refl, ap, ◌∙◌, subst, arith}
-use Rattle.std.proofs.lemmas.Bool.{eqb-true, eq-eqb, both_ways, true≢false}
+use Rattle.std.proofs.Common.{◌≡◌, ℕ, suc, ◌^◌, ◌<◌, Bool, true, false, cond, eqb, List, Some, None, Ok, Err, Option, Result, sym, refl, ap, ◌∙◌, subst, arith}
+use Rattle.std.proofs.lemmas.Bool.{eqb-true, eq-eqb, true≢false}
 use Rattle.nonce.specs.Nonces.{nonce_long}
 use Rattle.nonce.specs.declared.side.Side.{Side}
 use Rattle.channel.specs.Meaning.{Meaning, other}
 use Rattle.channel.specs.declared.sent.Sent.{Sent as Taking}
-use Rattle.channel.specs.declared.sent.Sent.TheVariants.{Taken, NotTaken}
 use Rattle.calls.specs.declared.answers.Answer.TheVariants as answer
 use Rattle.calls.specs.declared.answers.Delivered.{Delivered}
 use Rattle.calls.specs.declared.answers.Delivered.TheVariants.{Done, Again}
@@ -20,7 +19,7 @@ use Rattle.wire.specs.declared.message.Request.{Request}
 use Rattle.wire.specs.declared.message.Request.TheVariants as requests
 use Rattle.wire.specs.declared.message.Response.{Response}
 use Rattle.wire.specs.declared.message.Response.TheVariants as responses
-use Rattle.protocol.specs.Node.{Out, idle, asked, Node}
+use Rattle.protocol.specs.Node.{Out, idle, asked}
 use Rattle.line.specs.Calls.{wire, Coding, Msg, request, response, Good, GoodWire, GoodReply}
 use Rattle.line.specs.Codes.{code, msg_of, is_from, said_by, decode}
 use Rattle.line.specs.Meaning.{is_taken, Got}
@@ -29,18 +28,17 @@ use Rattle.line.specs.World as line
 use Rattle.line.specs.World.{Did, gets_none, ignores, repeats, answers, settles, follows, deliver, unused, OtherId, Uncounted}
 use Rattle.line.proofs.Codes.{coding}
 use Rattle.law.specs.Ends.{End, Outstanding, response_octets}
-use Rattle.law.specs.Asks.{Doing}
 use Rattle.law.specs.Effects as effects
 use Rattle.law.specs.Requests.{answered}
 use Rattle.law.specs.Responses.{Settled, settled}
 use Rattle.law.specs.Deliveries as deliveries
 use Rattle.law.proofs.Answering as answering
 use Rattle.law.proofs.Answering.{Answers, NonceFine}
-use Rattle.law.proofs.Calling.{answer_of, refusal_of, renamed, Does, stays}
-use Rattle.law.proofs.Sending.{Named, request_code, response_code, from_peer, sent, got}
+use Rattle.law.proofs.Calling.{answer_of, refusal_of, renamed, Does}
+use Rattle.law.proofs.Sending.{Named, request_code, response_code, from_peer, sent}
 use Rattle.law.proofs.Settling as settling
 use Rattle.law.proofs.Settling.{ResponseFine, Said, Settling}
-use Rattle.law.proofs.Tied.{node, OutTied, ReplyTied, Tied, SameName}
+use Rattle.law.proofs.Tied.{node, OutTied, ReplyTied, Tied}
 
 -- what can be encoded has nonces of 16 to 32 octets
 nonce_good : (q : Request (List ℕ)) → GoodWire (2 ^ 32) nonce_long q → NonceFine q

@@ -1,7 +1,6 @@
 -- Every run of two ends keeps the law.
-use Rattle.std.proofs.Common.{◌≡◌, ℕ, suc, ◌^◌, ◌<◌, ◌≤◌, Bool, true, false, not, eqb, ◌⊎◌, List, [], ◌∷◌, ◌++◌, Some, None, Ok, Err, Option, sym, refl, ap, ◌∙◌, subst, inl, inr, ⊎_elim, arith}
-use Rattle.std.proofs.lemmas.Bool.{ne_eqb, eqb-true, eq-eqb, eqb-false, not-true, not_from_false, true≢false}
-use Rattle.nonce.specs.Order.{lowest_of, loser_by}
+use Rattle.std.proofs.Common.{◌≡◌, ℕ, ◌^◌, ◌<◌, ◌≤◌, Bool, true, false, not, List, [], ◌∷◌, ◌++◌, Some, None, Ok, Err, Option, sym, refl, ap, ◌∙◌, subst, inl, inr, ⊎_elim, arith}
+use Rattle.std.proofs.lemmas.Bool.{ne_eqb, eq-eqb, not-true, not_from_false, true≢false}
 use Rattle.nonce.specs.declared.side.Side.{Side}
 use Rattle.nonce.specs.declared.side.Side.TheVariants.{A, B}
 use Rattle.book.specs.Rows.{is_opening, kept_octets, nr_octets, mirrors, Mirror}
@@ -27,10 +26,10 @@ use Rattle.protocol.specs.Invariant as invariant
 use Rattle.protocol.specs.Law.{SameIn}
 use Rattle.protocol.specs.Model.{St, Sa, Cell, live, mirror, lose}
 use Rattle.protocol.specs.Model as model
-use Rattle.protocol.specs.Node.{Out, idle, asked, Node}
+use Rattle.protocol.specs.Node.{Out, idle, asked}
 use Rattle.protocol.specs.Rows.{lookup}
 use Rattle.line.specs.Calls.{Coding}
-use Rattle.line.specs.Ghosts.{Has, GivesUp}
+use Rattle.line.specs.Ghosts.{GivesUp}
 use Rattle.line.specs.History as line-history
 use Rattle.line.specs.Laws.{Succeeds}
 use Rattle.line.specs.Rest as line-rest
@@ -39,14 +38,14 @@ use Rattle.line.specs.World as line
 use Rattle.line.proofs.Codes.{coding, short}
 use Rattle.line.proofs.Runs.{starts}
 use Rattle.line.proofs.Whole.{law_of}
-use Rattle.law.specs.Cells.{is_mine, is_heir, sa_of, cell_by, cell_of, cell_in, lines}
+use Rattle.law.specs.Cells.{is_mine, is_heir, sa_of, cell_by, cell_in, lines}
 use Rattle.law.specs.Ends.{End, Outstanding, made_end}
-use Rattle.law.specs.Runs.{World, at, Called, Step, Run, Fit, Start, ever}
+use Rattle.law.specs.Runs.{World, at, Called, Run, Fit, Start, ever}
 use Rattle.law.specs.Laws as laws
 use Rattle.law.specs.Laws.{row_of, Quiet, Mirrored, MadeAt, InNeither, InBook, InBoth, Rekeys, loser_of, Loses, Accepted, Names, GaveUp, Succession, Tally, tally, rounds_since, WithoutResend, HoldsTwo, Law, front, Lawful, Goes_on}
 use Rattle.law.proofs.Calling.{call_of, answer_of, refusal_of, idle_of}
 use Rattle.law.proofs.Cells.{lines_lookup}
-use Rattle.law.proofs.Followed.{moves_of, answers_of, live_cell, RowOf, row_live, Ties, image, node_at, Followed, follow}
+use Rattle.law.proofs.Followed.{moves_of, answers_of, row_live, Ties, image, node_at, Followed, follow}
 use Rattle.law.proofs.Sending.{Named}
 use Rattle.law.proofs.Tied.{node, OutTied, Tied}
 

@@ -1,10 +1,10 @@
 -- Runs that the definitions compute, so that the law speaks of something.
-use Rattle.std.proofs.Common.{◌≡◌, ℕ, ◌^◌, ◌<◌, ◌≤◌, Bool, true, false, List, [], ◌∷◌, ◌++◌, map, replicate, Some, None, refl, arith}
+use Rattle.std.proofs.Common.{◌≡◌, ℕ, true, List, [], ◌∷◌, ◌++◌, map, replicate, refl, arith}
 use Rattle.nonce.specs.declared.side.Side.{Side}
 use Rattle.nonce.specs.declared.side.Side.TheVariants.{A, B}
 use Rattle.book.specs.Audits.{audited}
 use Rattle.book.specs.Rows.{mirrors}
-use Rattle.book.specs.declared.audit.Finding.TheVariants.{AllMirrored, AloneInA, AloneInB}
+use Rattle.book.specs.declared.audit.Finding.TheVariants.{AllMirrored}
 use Rattle.calls.specs.Numbers.{answer_number}
 use Rattle.calls.specs.declared.making.Making.{Making}
 use Rattle.calls.specs.declared.moves.Call.{Call}

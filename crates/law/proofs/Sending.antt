@@ -1,5 +1,5 @@
 -- What an end sends and takes, in the words of the line.
-use Rattle.std.proofs.Common.{◌≡◌, ℕ, ◌<◌, ◌≤◌, Bool, true, false, not, ◌&&◌, eqb, List, [], length, Some, None, Option, sym, refl, ap, ◌∙◌, subst}
+use Rattle.std.proofs.Common.{◌≡◌, ℕ, not, List, Some, None, Option, refl, subst}
 use Rattle.nonce.specs.declared.side.Side.{Side}
 use Rattle.nonce.specs.declared.side.Side.TheVariants.{A, B}
 use Rattle.channel.specs.Meaning.{Meaning, other}
@@ -9,7 +9,7 @@ use Rattle.wire.specs.declared.message.Request.{Request}
 use Rattle.wire.specs.declared.message.Response.{Response}
 use Rattle.line.specs.Calls.{request, response}
 use Rattle.line.specs.Codes.{code, is_from}
-use Rattle.line.specs.Meaning.{Same, Sent, is_taken, CouldCome, removes, Got}
+use Rattle.line.specs.Meaning.{Sent, is_taken, CouldCome, removes, Got}
 use Rattle.line.proofs.Effects.{sent_as, same_state}
 use Rattle.law.specs.Ends.{End, request_octets, response_octets}
 use Rattle.law.specs.Effects.{Sends, TakenOut, Comes}

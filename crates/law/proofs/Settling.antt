@@ -186,7 +186,7 @@ module _ (e : End) (said : Option (Response (List ℕ))) (i : ℕ) (a : Ask) (t 
 record Opened (e : End) (k : ℕ) (d : Seed) : Type 0 where
   row : Row
   here : shelf.lookup e.shelf.rows k ≡ Some row
-  own : row.own_val ≡ k
+  own : row.own ≡ k
   began : row.began ≡ ThisEnd
   seed : seed_of row ≡ d
 

@@ -1,5 +1,5 @@
 -- Every call of an end is one of its node.
-use Rattle.std.proofs.Common.{◌≡◌, ℕ, suc, ◌^◌, ◌<◌, ◌≤◌, Bool, true, false, not, List, [], Some, None, Ok, Err, MatchBool, Option, Result, sym, refl, ap, ◌∙◌, subst, arith}
+use Rattle.std.proofs.Common.{◌≡◌, ℕ, ◌^◌, ◌<◌, Bool, true, false, List, Some, None, Ok, Err, MatchBool, Option, Result, sym, refl, ap, ◌∙◌, subst}
 use Rattle.nonce.specs.Nonces.{nonce_long}
 use Rattle.nonce.specs.declared.side.Side.{Side}
 use Rattle.book.specs.Shelves as shelf
@@ -15,23 +15,21 @@ use Rattle.calls.specs.declared.moves.Call.TheVariants as calls
 use Rattle.calls.specs.declared.refusals.DeliverRefusal.{DeliverRefusal}
 use Rattle.calls.specs.declared.refusals.DeliverRefusal.TheVariants as refusal
 use Rattle.wire.specs.declared.message.Response.{Response}
-use Rattle.protocol.specs.Model.{Cell}
-use Rattle.protocol.specs.Node.{Out, idle, asked, Node}
-use Rattle.protocol.specs.Rows.{lookup}
+use Rattle.protocol.specs.Node.{Out, idle}
 use Rattle.line.specs.Calls.{to_create, to_rekey, to_delete, to_check, Coding, Msg, Good}
 use Rattle.line.specs.Codes.{code, decode}
 use Rattle.line.specs.Meaning.{Got}
 use Rattle.line.specs.Tidy.{Tidy, RowHeld}
-use Rattle.line.specs.World.{gets_none, asking, deliver, nothing}
+use Rattle.line.specs.World.{gets_none, deliver, nothing}
 use Rattle.line.proofs.Codes.{coding}
 use Rattle.line.proofs.Codes as codes
-use Rattle.law.specs.Cells.{cell_by, cell_in, lines}
+use Rattle.law.specs.Cells.{cell_by, cell_in}
 use Rattle.law.specs.Ends.{End, is_quiet}
 use Rattle.law.specs.Asks.{Doing, create_asked, rekey_asked, delete_asked, check_asked}
 use Rattle.law.specs.Effects as effects
 use Rattle.law.specs.Deliveries.{heard}
 use Rattle.law.specs.Runs.{Called}
-use Rattle.law.proofs.Asking.{Asks, NotOwn, holds, quiet_none, create_asks, rekey_asks, delete_asks, check_asks}
+use Rattle.law.proofs.Asking.{NotOwn, holds, quiet_none, create_asks, rekey_asks, delete_asks, check_asks}
 use Rattle.law.proofs.Calling.{call_of, answer_of, idle_of, Does, stays, ask_does, resend_does}
 use Rattle.law.proofs.Cells.{lines_lookup}
 use Rattle.law.proofs.Hearing.{datagram_does}

@@ -1,10 +1,10 @@
 -- Each worked line, computed.
-use Rattle.std.proofs.Common.{◌≡◌, ℕ, suc, ◌^◌, Bool, true, false, not, List, Some, None, Ok, Err, Option, refl, ap, ◌∙◌, arith}
+use Rattle.std.proofs.Common.{◌≡◌, ℕ, suc, true, false, not, List, Some, None, refl, arith}
 use Rattle.std.proofs.lemmas.Bool.Decides.{nat_tests}
 use Rattle.book.specs.declared.row.Row.{Row}
 use Rattle.wire.specs.Payloads.{sa_body, ts_body, delete_body, carried, sa_in}
 use Rattle.wire.specs.Decoding.{header_in, opened, offer_in, request_in, decoded}
-use Rattle.law.specs.Ends.{End, is_quiet, is_spent}
+use Rattle.law.specs.Ends.{End, is_spent}
 use Rattle.law.specs.Asks.{rekey_asked, delete_asked}
 use Rattle.law.specs.Lines.{lines, AllHold, Stands, ask_refusal}
 

@@ -1,5 +1,5 @@
 -- What an ask does: the first refusal that applies, or the end after it and the octets that are sent.
-use Rattle.std.specs.Prelude.{ℕ, suc, Bool, true, false, cond, not, List, length, Some, None, Ok, Err, Option, Result, nat_le}
+use Rattle.std.specs.Prelude.{ℕ, suc, Bool, true, false, not, List, length, Some, None, Ok, Err, Option, Result, nat_le}
 use Rattle.nonce.specs.Nonces.{nonce_long}
 use Rattle.book.specs.Shelves.{Shelf, lookup}
 use Rattle.book.specs.declared.row.Row.{Row}

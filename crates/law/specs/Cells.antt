@@ -1,13 +1,13 @@
 -- The rows of a book, as the protocol of two ends sees them.
-use Rattle.std.specs.Prelude.{ℕ, Bool, true, false, not, List, [], ◌∷◌, Some, None, Option, ◌==◌}
+use Rattle.std.specs.Prelude.{Bool, true, false, not, List, [], ◌∷◌, Some, None, Option, ◌==◌}
 use Rattle.book.specs.Rows.{kept_octets}
 use Rattle.book.specs.declared.row.Beginner.{Beginner}
 use Rattle.book.specs.declared.row.Beginner.TheVariants.{ThisEnd, Peer}
 use Rattle.book.specs.declared.row.Row.{Row}
 use Rattle.book.specs.declared.row.RowState.{RowState}
 use Rattle.book.specs.declared.row.RowState.TheVariants as state
-use Rattle.protocol.specs.Model.{St, fresh, standing, superseded, closing, Sa, Seed, Cell, opening, live}
-use Rattle.protocol.specs.Rows.{Line, Found, nowhere, at}
+use Rattle.protocol.specs.Model.{fresh, standing, superseded, closing, Sa, Seed, Cell, opening, live}
+use Rattle.protocol.specs.Rows.{Line}
 
 abbrev pub is_mine : Beginner → Bool
 is_mine ThisEnd = true

@@ -1,5 +1,5 @@
 -- What a call of an end does to the end and to any channel, of which c is the state before and c' after.
-use Rattle.std.specs.Prelude.{◌≡◌, ℕ, ◌<◌, ◌≤◌, Bool, true, false, List, [], length, IfSome, Some, None, Ok, Err, MatchBool, Option, Result, MatchOption}
+use Rattle.std.specs.Prelude.{◌≡◌, ℕ, ◌<◌, ◌≤◌, List, [], length, IfSome, Some, None, Ok, Err, MatchBool, Option, Result, MatchOption}
 use Rattle.nonce.specs.Nonces.{nonce_long}
 use Rattle.nonce.specs.declared.side.Side.{Side}
 use Rattle.channel.specs.Meaning.{Meaning, Within, Without, other}
@@ -13,7 +13,7 @@ use Rattle.calls.specs.declared.refusals.DeliverRefusal.{DeliverRefusal}
 use Rattle.calls.specs.declared.refusals.DeliverRefusal.TheVariants.{NonceLength}
 use Rattle.calls.specs.declared.refusals.ResendRefusal.{ResendRefusal}
 use Rattle.law.specs.Ends.{End}
-use Rattle.law.specs.Asks.{Asked, Doing, resend_asked}
+use Rattle.law.specs.Asks.{Asked, resend_asked}
 use Rattle.law.specs.Deliveries.{Heard, refused, again, done, heard}
 
 -- octets are sent to a side, by the promises of the channel's send

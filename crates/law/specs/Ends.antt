@@ -4,8 +4,6 @@ use Rattle.nonce.specs.declared.side.Side.{Side}
 use Rattle.nonce.specs.declared.side.Side.TheVariants.{A, B}
 use Rattle.book.specs.Shelves.{Shelf, empty_shelf}
 use Rattle.wire.specs.Messages.{octets_of}
-use Rattle.wire.specs.declared.message.Message.{Message}
-use Rattle.wire.specs.declared.message.Body.{Body}
 use Rattle.wire.specs.declared.message.Body.TheVariants as body
 use Rattle.wire.specs.declared.message.Request.{Request}
 use Rattle.wire.specs.declared.message.Response.{Response}
@@ -13,7 +11,6 @@ use Rattle.calls.specs.declared.making.Making.{Making}
 use Rattle.calls.specs.declared.refusals.MakingRefusal.{MakingRefusal}
 use Rattle.calls.specs.declared.refusals.MakingRefusal.TheVariants.{ReservedSpi, BookNotEmpty}
 use Rattle.law.specs.declared.kinds.Kind.{Kind}
-use Rattle.law.specs.declared.kinds.Kind.TheVariants as kind
 
 -- the nonces of the peer's exchange that rekeyed the same SA: the initiator's and the responder's
 pub record Collision : Type 0 where

@@ -15,7 +15,6 @@ use Rattle.calls.specs.declared.answers.Answer.{Answer}
 use Rattle.calls.specs.declared.answers.Answer.TheVariants.{Asked, Resent, Heard}
 use Rattle.calls.specs.declared.refusals.DeliverRefusal.{DeliverRefusal}
 use Rattle.calls.specs.declared.refusals.DeliverRefusal.TheVariants as refusal
-use Rattle.law.specs.Ends.{End}
 use Rattle.law.specs.Runs.{World, at, Run, Start, ever}
 
 -- the row of an own SPI in the book of a side

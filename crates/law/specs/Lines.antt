@@ -1,5 +1,5 @@
 -- Worked lines: examples that the definitions give.
-use Rattle.std.specs.Prelude.{◌≡◌, ℕ, true, List, [], ◌∷◌, ◌++◌, drop, replicate, Some, None, Ok, Err, Option, Result, slice_set}
+use Rattle.std.specs.Prelude.{◌≡◌, ℕ, true, List, [], ◌∷◌, drop, replicate, Some, None, Ok, Err, Option, Result, slice_set}
 use Rattle.nonce.specs.Nonces.{nonce_long}
 use Rattle.nonce.specs.Order.{lower_than, lowest_of, loser_by}
 use Rattle.wire.specs.Messages.{octets_of}

@@ -1,5 +1,5 @@
 -- What a request with the expected ID does to an end, and what is answered: the first line that applies decides.
-use Rattle.std.specs.Prelude.{ℕ, suc, Bool, true, false, cond, ◌||◌, List, length, is_some, Some, None, Option, ◌==◌, nat_le}
+use Rattle.std.specs.Prelude.{ℕ, suc, Bool, false, cond, ◌||◌, List, length, is_some, Some, None, Option, ◌==◌, nat_le}
 use Rattle.book.specs.Shelves.{Shelf, lookup, find}
 use Rattle.book.specs.declared.row.Row.{Row}
 use Rattle.book.specs.declared.row.RowState.{RowState}

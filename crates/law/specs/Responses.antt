@@ -1,5 +1,5 @@
 -- What the response to the outstanding request does to an end.
-use Rattle.std.specs.Prelude.{ℕ, Bool, true, false, cond, eqb, List, Some, None, Option}
+use Rattle.std.specs.Prelude.{ℕ, Bool, true, false, cond, List, Some, None, Option}
 use Rattle.nonce.specs.Order.{lowest_of, loser_by}
 use Rattle.nonce.specs.declared.side.Side.{Side}
 use Rattle.nonce.specs.declared.side.Side.TheVariants.{A, B}

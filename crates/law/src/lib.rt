@@ -1,5 +1,6 @@
 //! What an end does at each ask and at each message, as definitions, and the law over every run of them.
 #![tactic(auto)]
+
 ghost use Rattle.law.specs.Laws.{KeepsLaw};
 
 use channel::channel::Channel;

@@ -6,7 +6,6 @@ use Rattle.protocol.specs.Model.{Nonce, Ask}
 use Rattle.protocol.specs.Rows.{calm_lines}
 use Rattle.protocol.specs.Node.{Bar, sense, idle, asked, Node, InStep}
 use Rattle.nonce.specs.declared.side.Side.{Side}
-use Rattle.nonce.specs.declared.side.Side.TheVariants.{A}
 use Rattle.channel.specs.Meaning.{other, Meaning}
 use Rattle.line.specs.Meaning.{Same, Sent, Got}
 use Rattle.line.specs.Calls.{Want, ask, settle, taken_as, wire, heard, answer_wire, Msg, request, response, Coding}

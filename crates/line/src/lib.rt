@@ -1,5 +1,6 @@
 //! Two ends and the channel between them: the law over every run of calls, for ends that refuse as they like.
 #![tactic(auto)]
+
 ghost use Rattle.std.specs.Prelude.{ℕ, ◌^◌, ◌<◌};
 ghost use Rattle.line.specs.Codes.{Coded};
 ghost use Rattle.line.specs.Whole.{KeepsLaw};
