@@ -1,5 +1,6 @@
 //! Channels that hold datagrams themselves: a queue, a stack, and a trace that has a fate for each send.
 #![tactic(auto)]
+
 mod datagram;
 mod fate;
 mod lane;

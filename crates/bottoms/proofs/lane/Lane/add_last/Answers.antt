@@ -9,16 +9,16 @@ listed c = let l = c.args.self.now in omega (arith, has_place l c.args.octets.no
 pub bounds-self-self : goal.bounds-self-self
 bounds-self-self c = has_place c.args.self.now c.args.octets.now c.requires
 
-pub invariant-of-self : goal.invariant-of-self
-invariant-of-self c =
+pub invariant_of-self : goal.invariant_of-self
+invariant_of-self c =
     let l = c.args.self.now in
-    let d = c.args.octets.now in (
-      l.most,
-      (
-        omega (arith, length-set l.places l.count c.of.result, l.whole),
-        (omega (arith, has_place l d c.requires), (sizes_last l d c.requires c.of.result c.of.ensures, tt)),
-      ),
-    )
+    let d = c.args.octets.now in
+    record {
+      most = l.most;
+      whole = omega (arith, length-set l.places l.count c.of.result, l.whole);
+      few = omega (arith, has_place l d c.requires);
+      sizes = sizes_last l d c.requires c.of.result c.of.ensures;
+    }
 
 pub returns : goal.returns
 returns c = record {

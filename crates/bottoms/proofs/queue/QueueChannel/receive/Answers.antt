@@ -8,10 +8,10 @@ returns c =
     let side = c.args.at in
     let was = c.args.buffer.now in
     let h = c.if-not-serves.ensures in
-    let k = c.take-first.result in
-    let is = c.take-first.new.buffer in
-    let after = store_of c.take-first.new.self in
-    let e = c.take-first.ensures in
+    let k = c.take_first.result in
+    let is = c.take_first.new.buffer in
+    let after = store_of c.take_first.new.self in
+    let e = c.take_first.ensures in
     record {
       effect = given 32 l side was h k is after e;
       short = λ i. absurd (never_short 32 l side was h i);
