@@ -1,5 +1,6 @@
 //! A book that keeps each row in a place hashed from its own SPI, where that is free.
 #![tactic(auto)]
+
 ghost use Rattle.std.specs.Prelude.{◌≡◌, true, length};
 ghost use Rattle.table.specs.Slots.{apart};
 

@@ -6,8 +6,8 @@ use Rattle.table.proofs.TableBook.free_place.Goals as goal
 pub loop-step-init : goal.loop-step-init
 loop-step-init c = ap (λ h. free_from c.args.self.now.slots h 16) (omega arith)
 
-pub returns-then-is-none : goal.returns-then-is-none
-returns-then-is-none c =
+pub returns-then-is_none : goal.returns-then-is_none
+returns-then-is_none c =
     let s = c.args.self.now.slots in
     let t : is_some (get_or s ((c.home-start.result + c.loop-step.step) % 16) None) ≡ false = search rules in
     record {

@@ -1,16 +1,16 @@
 use Rattle.std.proofs.Common.{sym, ◌∙◌, arith, rules}
 use Rattle.table.proofs.Placing.{used_here, used_more, used_none_left}
 use Rattle.table.proofs.TableBook.used.Goals as goal
-use Rattle.table.proofs.TableBook.used.Goals.{then-is-some, else-is-some}
+use Rattle.table.proofs.TableBook.used.Goals.{then-is_some, else-is_some}
 
 pub loop-i-preserved : goal.loop-i-preserved
 loop-i-preserved c =
-    elim c.if-is-some.branch [
-      | then-is-some w ↦
-          let u = used_here c.args.self.now.slots c.loop-i.i (search rules) (sym c.is-some.ensures ∙ w.if-is-some.true) in
+    elim c.if-is_some.branch [
+      | then-is_some w ↦
+          let u = used_here c.args.self.now.slots c.loop-i.i (search rules) (sym c.is_some.ensures ∙ w.if-is_some.true) in
           (omega (arith, w.count-is), omega (arith, w.count-is))
-      | else-is-some w ↦
-          let u = used_more c.args.self.now.slots c.loop-i.i (search rules) (sym c.is-some.ensures ∙ w.if-is-some.false) in
+      | else-is_some w ↦
+          let u = used_more c.args.self.now.slots c.loop-i.i (search rules) (sym c.is_some.ensures ∙ w.if-is_some.false) in
           (omega (arith, w.count-is), omega (arith, w.count-is))
     ]
 

@@ -4,10 +4,10 @@ use Rattle.table.specs.Shelved.{shelved}
 use Rattle.table.proofs.Filed.{has_place, remove_place}
 use Rattle.table.proofs.methods.TableBookBook.remove.Goals as goal
 
-pub invariant-of-self : goal.invariant-of-self
-invariant-of-self c =
+pub invariant_of-self : goal.invariant_of-self
+invariant_of-self c =
     let b = c.args.self.now in
-    (search rules, ((remove_place b.slots c.args.own c.in-Some.i b.ok c.in-Some.ensures.value).0, tt))
+    record { long = search rules; ok = (remove_place b.slots c.args.own c.in-Some.i b.ok c.in-Some.ensures.value).0 }
 
 pub returns-in-Some : goal.returns-in-Some
 returns-in-Some c =
