@@ -1,12 +1,11 @@
 -- The front of a buffer that a message was written into.
-use Rattle.std.proofs.Common.{◌≡◌, ℕ, ◌-◌, ◌≤◌, Bool, true, false, cond, ltb, List, ◌++◌, length, take, drop, Ok, Err, Result, sym, refl, ap, ◌∙◌, arith}
+use Rattle.std.proofs.Common.{◌≡◌, ℕ, ◌-◌, ◌≤◌, Bool, true, false, cond, ltb, List, ◌++◌, length, take, drop, Ok, Err, refl, ap, ◌∙◌, arith}
 use lib.Seq.{take-append_seam}
 use Rattle.std.proofs.lemmas.Bool.{ltb-false}
 use Rattle.wire.specs.Messages.{octets_of}
 use Rattle.wire.specs.Encoding.{written, overwritten}
 use Rattle.wire.specs.declared.message.Message.{Message}
 use Rattle.childsa.specs.Hex.{hex_text}
-use Rattle.wire.specs.declared.message.EncodeRefusal.{EncodeRefusal}
 use Rattle.wire.specs.declared.message.EncodeRefusal.TheVariants.{BufferTooShort}
 
 pub record Front (o out : List ℕ) (len : ℕ) (after : List ℕ) : Type 0 where

@@ -8,7 +8,6 @@ use Rattle.bottoms.specs.declared.refusal.MakeRefusal.{MakeRefusal}
 use Rattle.childsa.specs.declared.bottom.Bottom.{Bottom}
 use Rattle.childsa.specs.declared.bottom.Bottom.TheVariants.{Queue, Stack, Trace}
 use Rattle.childsa.specs.declared.channels.Kind.{Kind}
-use Rattle.childsa.specs.declared.channels.Kind.TheVariants as Kind
 use Rattle.childsa.specs.declared.pile.Pile.{Pile}
 use Rattle.childsa.specs.declared.pile.Pile.TheVariants.{Plain, One, Two, Three}
 

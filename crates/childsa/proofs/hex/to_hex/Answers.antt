@@ -10,7 +10,7 @@ loop-x-preserved c =
     let first = chosen _ _ _ _ c.push.ensures.bytes (ap is_ok c.in_ok-push.was) in
     let second = chosen _ _ _ _ c.push-in-loop-x.ensures.bytes (ap is_ok c.in_ok-push-2.was) in
     let more = written_more c.args.octets.now c.loop-x.x-index (omega arith) in
-    let fits : get_or c.args.octets.now c.loop-x.x-index 0 < 256 = omega (arith, c.type-inv.octets c.loop-x.x-index) in
+    let fits : get_or c.args.octets.now c.loop-x.x-index 0 < 256 = omega (arith, c.type_inv.octets c.loop-x.x-index) in
     let two = pushed_two (hex_text (take c.loop-x.x-index c.args.octets.now)) _ _ _ fits c.digit_of.ensures c.digit_of-in-loop-x.ensures in
     second
     ∙ ap (λ l. l ++ encode c.digit_of-in-loop-x.result) (first ∙ ap (λ l. l ++ encode c.digit_of.result) c.loop-x.invariant)

@@ -9,7 +9,7 @@ slice_bounds-to_hex-end c =
     let f = front (plain nonce_octets c.args.message.now) _ c.in-Ok.len c.in-Ok.ensures.answer in
     omega (arith, f.room, c.encode.auto.out)
 
-pub returns-in_ok-to_hex : goal.returns-in_ok-to_hex
-returns-in_ok-to_hex c =
+pub returns-in_ok-to_hex-in-Ok : goal.returns-in_ok-to_hex-in-Ok
+returns-in_ok-to_hex-in-Ok c =
     shown (plain nonce_octets c.args.message.now) _ _ c.in-Ok.len _ c.in-Ok.ensures.answer
-    c.encode.ensures.buffer c.in_ok-to_hex.ensures
+    c.encode.ensures.buffer c.in_ok-to_hex-in-Ok.ensures

@@ -1,4 +1,4 @@
-use Rattle.std.proofs.Common.{◌≡◌, ℕ, true, List, [], ◌∷◌, length, sym, refl, ◌∙◌, arith}
+use Rattle.std.proofs.Common.{◌≡◌, ℕ, true, List, [], ◌∷◌, length, refl, ◌∙◌, arith}
 use Rattle.childsa.specs.Read.{decimal}
 use Rattle.childsa.proofs.words.is_decimal.Goals as goal
 

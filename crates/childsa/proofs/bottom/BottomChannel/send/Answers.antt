@@ -1,5 +1,5 @@
 use Rattle.childsa.specs.Piles.{bottom_means}
-use Rattle.childsa.specs.declared.bottom.Bottom.TheVariants.{Queue, Stack, Trace}
+use Rattle.childsa.specs.declared.bottom.Bottom.TheVariants.{Queue, Trace}
 use Rattle.childsa.specs.Through.{sent_through, unfit_through}
 use Rattle.childsa.proofs.bottom.BottomChannel.send.Goals as goal
 
