@@ -1,5 +1,6 @@
 //! Tests of both kinds of book, each by one function that takes any book.
 #![tactic(auto)]
+
 ghost use Rattle.std.specs.Prelude.{◌≡◌};
 
 use book::row::{Row, RowState};
