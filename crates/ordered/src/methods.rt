@@ -3,9 +3,7 @@ ghost use Rattle.std.specs.Prelude.{◌≡◌, ◌<◌, false, IfSome};
 ghost use Rattle.book.specs.Shelves.{has, insert, empty_shelf};
 ghost use Rattle.ordered.specs.Places.{index_of};
 ghost use Rattle.ordered.specs.Shelved.{shelved, ordered_rows};
-ghost use Rattle.std.proofs.Common.{arith};
-ghost use Rattle.std.proofs.lemmas.List.{length-take};
-ghost use Rattle.ordered.specs.Found.{rises_rising};
+ghost use Rattle.ordered.specs.Found.{rises_rising, few_taken};
 
 use crate::rows::{first, index, room};
 use crate::{CAPACITY, OrderedBook};
@@ -59,7 +57,7 @@ impl Book for OrderedBook {
     ghost orderly = { λ b.
         record {
           rises = rises_rising 255 _ b.ok;
-          within = omega (arith, length-take b.count b.places, b.most);
+          within = few_taken b.count b.places b.most;
         } };
 
     fn len(&self) -> usize {

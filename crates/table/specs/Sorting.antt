@@ -39,6 +39,9 @@ used_within [] = omega arith
 used_within (None ∷ s) = omega (arith, used_within s)
 used_within (Some r ∷ s) = omega (arith, used_within s)
 
+pub few_sorted : (s : Slots) → length s ≡ 16 → length (sorted_rows s) ≤ 16
+few_sorted s l = omega (arith, length_sorted s, used_within s, l)
+
 -- Rows that rise are those of the slots where each lookup finds what the slots hold.
 pub sorted_is : (s : Slots) (rs : List Row) → apart s ≡ true → Rising 255 rs → ((n : ℕ) → seek s n ≡ lookup rs n) → sorted_rows s ≡ rs
 sorted_is s rs a h e = same_rows 255 255 (sorted_rows s) rs (rising_sorted s a) h (λ n. lookup_sorted s n a ∙ e n)

@@ -3,8 +3,7 @@ ghost use Rattle.std.specs.Prelude.{◌≡◌, ◌<◌, IfSome, None, slice_inde
 ghost use Rattle.book.specs.Shelves.{fits, empty_shelf};
 ghost use Rattle.table.specs.Slots.{home, holds, place_of, free_from, used, lowest};
 ghost use Rattle.table.specs.Shelved.{shelved};
-ghost use Rattle.std.proofs.Common.{arith};
-ghost use Rattle.table.specs.Sorting.{rising_sorted, length_sorted, used_within};
+ghost use Rattle.table.specs.Sorting.{rising_sorted, few_sorted};
 
 use crate::slots::{holds, home, lower, mine, scan};
 use crate::{CAPACITY, TableBook};
@@ -87,7 +86,7 @@ impl Book for TableBook {
     ghost orderly = { λ b.
         record {
           rises = rising_sorted b.slots b.ok;
-          within = omega (arith, length_sorted b.slots, used_within b.slots, b.long);
+          within = few_sorted b.slots b.long;
         } };
 
     fn len(&self) -> usize {
