@@ -44,7 +44,7 @@ digit_low d h = search rules
 pub pushed_two : (t : List ℕ) (x d e : ℕ) → x < 256 → d ≡ digit_char (x / 16 % 16) → e ≡ digit_char (x % 16) → (t ++ encode d) ++ encode e ≡ t ++ digit_char (x / 16) ∷ digit_char (x % 16) ∷ []
 pushed_two t x d e h p q =
     let high : x / 16 % 16 ≡ x / 16 = omega arith in
-    let d-is : d ≡ digit_char (x / 16) = p ∙ ap digit_char high in
-    let d-low : digit_char (x / 16) < 128 = digit_low (x / 16) (omega arith) in
-    let e-low : digit_char (x % 16) < 128 = digit_low (x % 16) (omega arith) in
-    rw (d-is, q, encode_ascii _ d-low, encode_ascii _ e-low) (append_assoc t (digit_char (x / 16) ∷ []) (digit_char (x % 16) ∷ []))
+    let d_is : d ≡ digit_char (x / 16) = p ∙ ap digit_char high in
+    let d_low : digit_char (x / 16) < 128 = digit_low (x / 16) (omega arith) in
+    let e_low : digit_char (x % 16) < 128 = digit_low (x % 16) (omega arith) in
+    rw (d_is, q, encode_ascii _ d_low, encode_ascii _ e_low) (append_assoc t (digit_char (x / 16) ∷ []) (digit_char (x % 16) ∷ []))

@@ -1,7 +1,7 @@
 //! The commands on books.
 ghost use Rattle.std.specs.Prelude.{◌≡◌, IfOk, string_bytes};
 ghost use Rattle.book.specs.Audits.{audited};
-ghost use Rattle.book.specs.Shelves.{put_in, written_in, removed_from, read_in, find as found_in, next as next-in};
+ghost use Rattle.book.specs.Shelves.{put_in, written_in, removed_from, read_in, find as found_in, next as next_in};
 ghost use Rattle.childsa.specs.Told.{refusal_text, answer_text, told, spi_text, read_text, rows_text, finding_text};
 
 use crate::any_book::AnyBook;
@@ -162,7 +162,7 @@ fn find_text<B: Book>(heap: Global, book: &B, peer: u32) -> Result<String, Alloc
 
 /// The own SPI that comes next, as text.
 fn next_text<B: Book>(heap: Global, book: &B, own: u32) -> Result<String, AllocError>
-    ensures { IfOk result (λ s. string_bytes s ≡ spi_text (next-in (B.Book.shelf book.now).rows own)) }
+    ensures { IfOk result (λ s. string_bytes s ≡ spi_text (next_in (B.Book.shelf book.now).rows own)) }
 {
     spi_text(heap, book.next(own))
 }

@@ -71,9 +71,9 @@ pub record Does {C : Type 0} (K : Coding) (meaning : C → Meaning) (i r : ℕ) 
   pub named : Named i r s e'
   pub does : Did K meaning s P c x a (node e' said busy) c'
 
-module _ {C : Type 0} (meaning : C → Meaning) (i r : ℕ) (fits-i : i < 2 ^ 64) (fits-r : r < 2 ^ 64) (s : Side) (e : End) (said : Option (Response (List ℕ))) (n : Named i r s e) (c c' : C) (e' : End) where
+module _ {C : Type 0} (meaning : C → Meaning) (i r : ℕ) (fits_i : i < 2 ^ 64) (fits_r : r < 2 ^ 64) (s : Side) (e : End) (said : Option (Response (List ℕ))) (n : Named i r s e) (c c' : C) (e' : End) where
   abbrev K : Coding
-  K = coding i r fits-i fits-r
+  K = coding i r fits_i fits_r
 
   -- a call that is refused
   pub stays :

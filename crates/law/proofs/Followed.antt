@@ -19,7 +19,7 @@ use Rattle.protocol.specs.Rows.{lookup}
 use Rattle.line.specs.Calls.{Coding, Msg, Good}
 use Rattle.line.specs.Codes.{code}
 use Rattle.line.specs.Ghosts.{Has}
-use Rattle.line.specs.History as line-history
+use Rattle.line.specs.History as line_history
 use Rattle.line.specs.Line.{Line}
 use Rattle.line.specs.World as line
 use Rattle.line.proofs.Codes.{coding}
@@ -129,9 +129,9 @@ module _ {C : Type 0} (i r : ℕ) (v : World C) (x : Ties i r v) where
   has_made A k z h = from_has A k z h.st h.row h.theirs
   has_made B k z h = from_has B k z h.st h.row h.theirs
 
-module _ {C : Type 0} (meaning : C → Meaning) (i r : ℕ) (fits-i : i < 2 ^ 64) (fits-r : r < 2 ^ 64) where
+module _ {C : Type 0} (meaning : C → Meaning) (i r : ℕ) (fits_i : i < 2 ^ 64) (fits_r : r < 2 ^ 64) where
   abbrev K : Coding
-  K = coding i r fits-i fits-r
+  K = coding i r fits_i fits_r
 
   abbrev Anyhow : Side → ℕ → Type 0
   Anyhow s k = Unit {0}
@@ -146,7 +146,7 @@ module _ {C : Type 0} (meaning : C → Meaning) (i r : ℕ) (fits-i : i < 2 ^ 64
   step_follows us v x m a w l A e h =
       let g = subst (λ s. Called meaning (at s v) v.channel m.call a (at s w) w.channel) e h.this in
       let d =
-      called_does meaning i r fits-i fits-r A v.a x.said_a x.busy_a x.named_a x.tied_a (tidy_alive K meaning Anyhow us (image v x) l).0
+      called_does meaning i r fits_i fits_r A v.a x.said_a x.busy_a x.named_a x.tied_a (tidy_alive K meaning Anyhow us (image v x) l).0
       v.channel w.channel w.a (encoded B (image v x).b (image v x).a ((meaning v.channel).may A) l.between.from_q) m.call a g
       in
       let b : w.b ≡ v.b = subst (λ s. at (other s) w ≡ at (other s) v) e h.that in (
@@ -165,7 +165,7 @@ module _ {C : Type 0} (meaning : C → Meaning) (i r : ℕ) (fits-i : i < 2 ^ 64
   step_follows us v x m a w l B e h =
       let g = subst (λ s. Called meaning (at s v) v.channel m.call a (at s w) w.channel) e h.this in
       let d =
-      called_does meaning i r fits-i fits-r B v.b x.said_b x.busy_b x.named_b x.tied_b (tidy_alive K meaning Anyhow us (image v x) l).1
+      called_does meaning i r fits_i fits_r B v.b x.said_b x.busy_b x.named_b x.tied_b (tidy_alive K meaning Anyhow us (image v x) l).1
       v.channel w.channel w.b (encoded A (image v x).a (image v x).b ((meaning v.channel).may B) l.between.from_p) m.call a g
       in
       let b : w.a ≡ v.a = subst (λ s. at (other s) w ≡ at (other s) v) e h.that in (
@@ -188,10 +188,10 @@ module _ {C : Type 0} (meaning : C → Meaning) (i r : ℕ) (fits-i : i < 2 ^ 64
     pub run : line.Run K meaning (image v x) (moves_of ms) (answers_of rs) (image w ties)
     pub to :
         (s : Side) (k : ℕ) (y : Row) → ever meaning (MadeAt s k y) v ms rs w h →
-        line-history.ever K meaning (λ (u : line.World C). Has (node_at s u) k (sa_of y)) (image v x) (moves_of ms) (answers_of rs) (image w ties) run
+        line_history.ever K meaning (λ (u : line.World C). Has (node_at s u) k (sa_of y)) (image v x) (moves_of ms) (answers_of rs) (image w ties) run
     pub back :
         (s : Side) (k : ℕ) (z : Sa) →
-        line-history.ever K meaning (λ (u : line.World C). Has (node_at s u) k z) (image v x) (moves_of ms) (answers_of rs) (image w ties) run →
+        line_history.ever K meaning (λ (u : line.World C). Has (node_at s u) k z) (image v x) (moves_of ms) (answers_of rs) (image w ties) run →
         (y : Row) × ever meaning (MadeAt s k y) v ms rs w h × (sa_of y ≡ z)
 
   pub follow :

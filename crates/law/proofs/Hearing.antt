@@ -73,10 +73,10 @@ stored e o (Some r) (i, p, q) = record { reply = r; id = i; is = refl; before = 
 eqb_not : (a b : ℕ) → eqb a b ≡ false → a ≡ b → ⊥
 eqb_not a b f e = true≢false (sym (eq-eqb a b e) ∙ f)
 
-module _ {C : Type 0} (meaning : C → Meaning) (i r : ℕ) (fits-i : i < 2 ^ 64) (fits-r : r < 2 ^ 64) (s : Side) (e : End) (said : Option (Response (List ℕ))) (n : Named i r s e) (c u c' : C) (e' : End)
+module _ {C : Type 0} (meaning : C → Meaning) (i r : ℕ) (fits_i : i < 2 ^ 64) (fits_r : r < 2 ^ 64) (s : Side) (e : End) (said : Option (Response (List ℕ))) (n : Named i r s e) (c u c' : C) (e' : End)
     (x : List ℕ) (long : nonce_long x ≡ true) (d : List ℕ) (came : Got (meaning c) (meaning u) s (Some d)) (a : Result Delivered DeliverRefusal) where
   abbrev K : Coding
-  K = coding i r fits-i fits-r
+  K = coding i r fits_i fits_r
 
   -- the delivery, with this request outstanding
   abbrev Delivery : Out → Type 0
@@ -89,7 +89,7 @@ module _ {C : Type 0} (meaning : C → Meaning) (i r : ℕ) (fits-i : i < 2 ^ 64
   ignored :
       (busy : Out) → Tied e said busy → (f : DeliverRefusal) → refusal_of f ≡ unused →
       Uncounted (node e said busy) (decode i r (other s) d) → (a ≡ Err f) × (e' ≡ e) × (c' ≡ u) → Delivery busy
-  ignored busy t f un un-c (p, q, k) =
+  ignored busy t f un un_c (p, q, k) =
       subst (DeliveryAs busy) (sym p)
       (subst (λ y. Does K meaning i r s (node e said busy) c (deliver x) y e' c') (sym un)
       (subst (λ y. Does K meaning i r s (node e said busy) c (deliver x) unused y c') (sym q)
@@ -98,7 +98,7 @@ module _ {C : Type 0} (meaning : C → Meaning) (i r : ℕ) (fits-i : i < 2 ^ 64
         busy = busy;
         tied = t;
         named = n;
-        does = ignores d (subst (λ y. Got (meaning c) (meaning y) s (Some d)) (sym k) came) un-c;
+        does = ignores d (subst (λ y. Got (meaning c) (meaning y) s (Some d)) (sym k) came) un_c;
       })))
 
   uncounted_by : (busy : Out) (m : Option Msg) → decode i r (other s) d ≡ m → Uncounted (node e said busy) m → Uncounted (node e said busy) (decode i r (other s) d)

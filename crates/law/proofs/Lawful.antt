@@ -30,10 +30,10 @@ use Rattle.protocol.specs.Node.{Out, idle, asked}
 use Rattle.protocol.specs.Rows.{lookup}
 use Rattle.line.specs.Calls.{Coding}
 use Rattle.line.specs.Ghosts.{GivesUp}
-use Rattle.line.specs.History as line-history
+use Rattle.line.specs.History as line_history
 use Rattle.line.specs.Laws.{Succeeds}
-use Rattle.line.specs.Rest as line-rest
-use Rattle.line.specs.Whole as line-law
+use Rattle.line.specs.Rest as line_rest
+use Rattle.line.specs.Whole as line_law
 use Rattle.line.specs.World as line
 use Rattle.line.proofs.Codes.{coding, short}
 use Rattle.line.proofs.Runs.{starts}
@@ -168,7 +168,7 @@ module _ {C : Type 0} (meaning : C → Meaning) where
 
   gave_run :
       (v : World C) (ms : List (Move (List ℕ))) (rs : List Answer) (w : World C) (s : Side) (k : ℕ) → Run meaning v ms rs w →
-      line-history.GivenUpBy (moves_of ms) (answers_of rs) s k → GaveUp ms rs s k
+      line_history.GivenUpBy (moves_of ms) (answers_of rs) s k → GaveUp ms rs s k
   gave_run v [] rs w s k h g = absurd g
   gave_run v (m ∷ ms) [] w s k h g = absurd h
   gave_run v (m ∷ ms) (a ∷ rs) w s k h g =
@@ -176,14 +176,14 @@ module _ {C : Type 0} (meaning : C → Meaning) where
       (λ z. inr (gave_run h.0 ms rs w s k h.2 z)) g
 
   -- rounds are counted alike
-  abbrev as_line : Tally → line-rest.Tally
+  abbrev as_line : Tally → line_rest.Tally
   as_line t = record { rounds = t.rounds; half = t.half }
 
-  delivered_alike : (t : Tally) (s : Side) → line-rest.delivered (as_line t) s ≡ as_line (laws.delivered t s)
+  delivered_alike : (t : Tally) (s : Side) → line_rest.delivered (as_line t) s ≡ as_line (laws.delivered t s)
   delivered_alike t A = refl
   delivered_alike t B = refl
 
-  refused_alike : (t : Tally) (s : Side) (n : List ℕ) (f : DeliverRefusal) → line-rest.tallied (as_line t) s (line.deliver n) (refusal_of f) ≡ as_line (laws.refused_by f t (laws.delivered t s))
+  refused_alike : (t : Tally) (s : Side) (n : List ℕ) (f : DeliverRefusal) → line_rest.tallied (as_line t) s (line.deliver n) (refusal_of f) ≡ as_line (laws.refused_by f t (laws.delivered t s))
   refused_alike t s n refusal.NonceLength = refl
   refused_alike t s n refusal.NothingCame = delivered_alike t s
   refused_alike t s n (refusal.NoMessage f) = delivered_alike t s
@@ -192,7 +192,7 @@ module _ {C : Type 0} (meaning : C → Meaning) where
 
   tallied_alike :
       (e e' : End) (c c' : C) (t : Tally) (s : Side) (x : Call (List ℕ)) (a : Answer) → Called meaning e c x a e' c' →
-      line-rest.tallied (as_line t) s (call_of x) (answer_of a) ≡ as_line (laws.tallied t s a)
+      line_rest.tallied (as_line t) s (call_of x) (answer_of a) ≡ as_line (laws.tallied t s a)
   tallied_alike e e' c c' t s (calls.Create n) (answer.Asked (Ok a)) h = refl
   tallied_alike e e' c c' t s (calls.Create n) (answer.Asked (Err f)) h = refl
   tallied_alike e e' c c' t s (calls.Create n) (answer.Resent r) h = absurd h
@@ -220,14 +220,14 @@ module _ {C : Type 0} (meaning : C → Meaning) where
 
   tally_alike :
       (v : World C) (ms : List (Move (List ℕ))) (rs : List Answer) (w : World C) (t : Tally) → Run meaning v ms rs w →
-      line-rest.tally (as_line t) (moves_of ms) (answers_of rs) ≡ as_line (tally t ms rs)
+      line_rest.tally (as_line t) (moves_of ms) (answers_of rs) ≡ as_line (tally t ms rs)
   tally_alike v [] rs w t h = refl
   tally_alike v (m ∷ ms) [] w t h = refl
   tally_alike v (m ∷ ms) (a ∷ rs) w t h =
-      ap (λ (u : line-rest.Tally). line-rest.tally u (moves_of ms) (answers_of rs)) (tallied_alike _ _ _ _ t m.side m.call a h.1.this)
+      ap (λ (u : line_rest.Tally). line_rest.tally u (moves_of ms) (answers_of rs)) (tallied_alike _ _ _ _ t m.side m.call a h.1.this)
       ∙ tally_alike h.0 ms rs w (laws.tallied t m.side a) h.2
 
-not_resend : (x : Call (List ℕ)) → laws.is_resend x ≡ false → line-rest.not_resend (call_of x)
+not_resend : (x : Call (List ℕ)) → laws.is_resend x ≡ false → line_rest.not_resend (call_of x)
 not_resend (calls.Create n) h = tt
 not_resend (calls.Rekey own n) h = tt
 not_resend (calls.Delete own) h = tt
@@ -235,7 +235,7 @@ not_resend calls.Check h = tt
 not_resend calls.Resend h = let z : ◌≡◌ {A = ℕ} 0 1 = cc in omega arith
 not_resend (calls.Deliver n) h = tt
 
-no_resend : (ms : List (Move (List ℕ))) → WithoutResend ms → line-rest.no_resend (moves_of ms)
+no_resend : (ms : List (Move (List ℕ))) → WithoutResend ms → line_rest.no_resend (moves_of ms)
 no_resend [] h = tt
 no_resend (m ∷ ms) h = (not_resend m.call h.0, no_resend ms h.1)
 
@@ -258,10 +258,10 @@ node_rows : {C : Type 0} {i r : ℕ} (w : World C) (y : Ties i r w) (s : Side) �
 node_rows w y A = refl
 node_rows w y B = refl
 
-module _ {C : Type 0} (meaning : C → Meaning) (i r : ℕ) (fits-i : i < 2 ^ 64) (fits-r : r < 2 ^ 64) (v : World C) (ms : List (Move (List ℕ))) (rs : List Answer) (w : World C)
-    (h : Run meaning v ms rs w) (x : Ties i r v) (f : Followed meaning i r fits-i fits-r v ms rs w h x) where
+module _ {C : Type 0} (meaning : C → Meaning) (i r : ℕ) (fits_i : i < 2 ^ 64) (fits_r : r < 2 ^ 64) (v : World C) (ms : List (Move (List ℕ))) (rs : List Answer) (w : World C)
+    (h : Run meaning v ms rs w) (x : Ties i r v) (f : Followed meaning i r fits_i fits_r v ms rs w h x) where
   abbrev K : Coding
-  K = coding i r fits-i fits-r
+  K = coding i r fits_i fits_r
 
   -- what is not in a node is not in the book
   absent : (s : Side) (k : ℕ) → lookup (node_at s (image w f.ties)).rows k ≡ None → row_of s w k ≡ None
@@ -275,8 +275,8 @@ module _ {C : Type 0} (meaning : C → Meaning) (i r : ℕ) (fits-i : i < 2 ^ 64
   succession :
       (s : Side) →
       Succeeds (λ (u : line.World C). node_at s u) (λ (u : line.World C). node_at (other s) u) (first_across s) s (other s)
-      (λ F. line-history.ever K meaning F (image v x) (moves_of ms) (answers_of rs) (image w f.ties) f.run)
-      (line-history.GivenUpBy (moves_of ms) (answers_of rs)) (image w f.ties) →
+      (λ F. line_history.ever K meaning F (image v x) (moves_of ms) (answers_of rs) (image w f.ties) f.run)
+      (line_history.GivenUpBy (moves_of ms) (answers_of rs)) (image w f.ties) →
       Succession s (λ F. ever meaning F v ms rs w h) (GaveUp ms rs) w
   succession s S =
       record {
@@ -314,9 +314,9 @@ module _ {C : Type 0} (meaning : C → Meaning) (sound : (c : C) → Sound (mean
       let m = s.making in
       let i = m.initiator in
       let r = m.responder in
-      let fits-i = s.fit.initiator in
-      let fits-r = s.fit.responder in
-      let K = coding i r fits-i fits-r in
+      let fits_i = s.fit.initiator in
+      let fits_r = s.fit.responder in
+      let K = coding i r fits_i fits_r in
       let x : Ties i r v = record {
         said_a = None;
         busy_a = idle;
@@ -342,11 +342,11 @@ module _ {C : Type 0} (meaning : C → Meaning) (sound : (c : C) → Sound (mean
         b_made = ap (λ e. node e None idle) s.b;
         clean = s.clean;
       } in
-      let f : Followed meaning i r fits-i fits-r v ms rs w h x =
-      follow meaning i r fits-i fits-r (image v x ∷ []) v ms rs w h x (starts K meaning (λ s k. Unit {0}) (image v x) start)
+      let f : Followed meaning i r fits_i fits_r v ms rs w h x =
+      follow meaning i r fits_i fits_r (image v x ∷ []) v ms rs w h x (starts K meaning (λ s k. Unit {0}) (image v x) start)
       in
-      let l = law_of K 160 (short i r fits-i fits-r) meaning (image v x) (moves_of ms) (answers_of rs) (image w f.ties) f.run start in
-      let quiet : Quiet w → line-law.Quiet (image w f.ties) =
+      let l = law_of K 160 (short i r fits_i fits_r) meaning (image v x) (moves_of ms) (answers_of rs) (image w f.ties) f.run start in
+      let quiet : Quiet w → line_law.Quiet (image w f.ties) =
       λ q. record {
         a = idle_of w.a w.a.outstanding f.ties.busy_a f.ties.tied_a.out q.a;
         b = idle_of w.b w.b.outstanding f.ties.busy_b f.ties.tied_b.out q.b;
@@ -356,12 +356,12 @@ module _ {C : Type 0} (meaning : C → Meaning) (sound : (c : C) → Sound (mean
             (mirrored w.a.shelf.rows w.b.shelf.rows (l.mirrors.a_in_b (quiet q).a (quiet q).b))
             (mirrored w.b.shelf.rows w.a.shelf.rows (l.mirrors.b_in_a (quiet q).a (quiet q).b));
         succession = λ q. both (λ t. Succession t (λ F. ever meaning F v ms rs w h) (GaveUp ms rs) w)
-            (succession meaning i r fits-i fits-r v ms rs w h x f A (l.made_by_a (quiet q)))
-            (succession meaning i r fits-i fits-r v ms rs w h x f B (l.made_by_b (quiet q)));
+            (succession meaning i r fits_i fits_r v ms rs w h x f A (l.made_by_a (quiet q)))
+            (succession meaning i r fits_i fits_r v ms rs w h x f B (l.made_by_b (quiet q)));
         rest = λ deep calm n.
             let z =
             l.rest (sound v.channel) (record { deep = deep.deep; long = deep.long }) (no_resend ms calm)
-            (subst (λ t. 8 ≤ t) (sym (ap (λ (t : line-rest.Tally). t.rounds) (tally_alike meaning v ms rs w (record { rounds = 0; half = false }) h))) n)
+            (subst (λ t. 8 ≤ t) (sym (ap (λ (t : line_rest.Tally). t.rounds) (tally_alike meaning v ms rs w (record { rounds = 0; half = false }) h))) n)
             in
             record {
               a = none_of w.a w.a.outstanding f.ties.busy_a f.ties.tied_a.out z.a;

@@ -25,7 +25,7 @@ use Rattle.protocol.specs.Node.{Out, idle, asked, Node, sending, sense}
 use Rattle.protocol.specs.Rows.{Line, lookup, insert, remove, find}
 use Rattle.line.specs.Calls.{Coding, quieted, wire, settle, settle_made, settle_won, unless_found, taken_as}
 use Rattle.line.specs.Tidy.{Tidy}
-use Rattle.law.specs.Asks.{closing as closing-of}
+use Rattle.law.specs.Asks.{closing as closing_of}
 use Rattle.law.specs.Cells.{seed_of, sa_of, cell_by, cell_in, lines}
 use Rattle.law.specs.Ends.{End, Outstanding, Collision, request_octets}
 use Rattle.law.specs.Requests.{row_at}
@@ -149,7 +149,7 @@ module _ (e : End) (said : Option (Response (List ℕ))) (i : ℕ) (a : Ask) (t 
       (s : Shelf) (x : Row) (k : ℕ) (ls : List Line) → x.own ≡ k → has s.rows k ≡ true →
       insert k (live closing (sa_of x)) (lines s.rows) ≡ ls → Rising 255 s.rows → Below e.spi s.rows → Begun s.rows →
       sending (node e said (asked i a)) (delete k) ls e.spi ≡ settle (node e said (asked i a)) a q →
-      SettlesAs e said i a q (goes_on (closing-of e x s))
+      SettlesAs e said i a q (goes_on (closing_of e x s))
   closes_settles s x k ls own here l rising below begun h =
       let y = in_state state.Closing x in
       let present : has s.rows y.own ≡ true = ap (has s.rows) own ∙ here in
@@ -263,7 +263,7 @@ module _ (e : End) (said : Option (Response (List ℕ))) (i : ℕ) (a : Ask) (t 
       (x : Row) (j : ℕ) (ls : List Line) → x.own ≡ j → has (filed e k d w t.rising p n fine).rows j ≡ true →
       insert j (live closing (sa_of x)) (insert k (live standing (grown p d n)) (lines e.shelf.rows)) ≡ ls →
       sending (node e said (asked i a)) (delete j) ls e.spi ≡ settle (node e said (asked i a)) a q →
-      SettlesAs e said i a q (goes_on (closing-of e x (filed e k d w t.rising p n fine)))
+      SettlesAs e said i a q (goes_on (closing_of e x (filed e k d w t.rising p n fine)))
   filed_closes x j ls own here l h =
       closes_settles e said i a t q (filed e k d w t.rising p n fine) x j ls own here
       (ap (insert j (live closing (sa_of x))) (filed_lines e k d w t.rising p n fine) ∙ l)
@@ -326,7 +326,7 @@ module _ (e : End) (said : Option (Response (List ℕ))) (i k : ℕ) (d : Seed) 
     -- the new row is deleted
     lost_settles :
         now_settled true ≡ now_settled (model.loses (is_a e.side) d n c) →
-        SettlesAs e said i (rekey k d c) (made p n) (goes_on (closing-of e now_new now_filed))
+        SettlesAs e said i (rekey k d c) (made p n) (goes_on (closing_of e now_new now_filed))
     lost_settles l =
         filed_closes e said i (rekey k d c) t (made p n) k d w p n fine now_new k _ w.own (filed_here e k d w t.rising p n fine)
         (insert_twice k (live closing (sa_of now_new)) (live standing (grown p d n)) (lines e.shelf.rows)

@@ -12,7 +12,7 @@ use Rattle.law.specs.Rows.{none, opening_row, in_state, with_row, rewritten}
 use Rattle.calls.specs.declared.refusals.AskRefusal.{AskRefusal}
 use Rattle.calls.specs.declared.refusals.AskRefusal.TheVariants as refusal
 use Rattle.calls.specs.declared.refusals.ResendRefusal.{ResendRefusal}
-use Rattle.calls.specs.declared.refusals.ResendRefusal.TheVariants as resend-refusal
+use Rattle.calls.specs.declared.refusals.ResendRefusal.TheVariants as resend_refusal
 use Rattle.law.specs.declared.kinds.Kind.TheVariants as kind
 
 -- the end after a call, and the octets that it sends
@@ -101,5 +101,5 @@ check_asked e =
 
 -- resend: the outstanding octets once more
 abbrev pub resend_asked : Option Outstanding → Result (List ℕ) ResendRefusal
-resend_asked None = Err resend-refusal.Quiet
+resend_asked None = Err resend_refusal.Quiet
 resend_asked (Some o) = Ok o.octets

@@ -89,22 +89,22 @@ GaveUp (m ∷ ms) [] s own = ⊥
 GaveUp (m ∷ ms) (r ∷ rs) s own = ((m.side ≡ s) × Names m.call own × Accepted r) ⊎ GaveUp ms rs s own
 
 -- What has become, once both ends are quiet, of the SAs that the end of the side s made for its peer. Ever is of the moments of the run, gave of its accepted asks.
-pub record Succession {C : Type 0} (s : Side) (ever-in : (World C → Type 0) → Type 0) (gave : Side → ℕ → Type 0) (w : World C) : Type 0 where
+pub record Succession {C : Type 0} (s : Side) (ever_in : (World C → Type 0) → Type 0) (gave : Side → ℕ → Type 0) (w : World C) : Type 0 where
   -- an SA that was rekeyed is in neither book
   pub rekeyed :
-      (own : ℕ) (r : Row) → ever-in (MadeAt s own r) → Rekeys r → InNeither s r.parent.own r.parent.peer w
+      (own : ℕ) (r : Row) → ever_in (MadeAt s own r) → Rekeys r → InNeither s r.parent.own r.parent.peer w
   -- an end answers at most one rekey of an SA with a new one
   pub once :
-      (own other-own : ℕ) (r t : Row) → ever-in (MadeAt s own r) → ever-in (MadeAt s other-own t) → Rekeys r →
-      r.parent.own ≡ t.parent.own → own ≡ other-own
+      (own other_own : ℕ) (r t : Row) → ever_in (MadeAt s own r) → ever_in (MadeAt s other_own t) → Rekeys r →
+      r.parent.own ≡ t.parent.own → own ≡ other_own
   -- of two new SAs for one the loser is in neither book
   pub loser :
-      (own their-own : ℕ) (r t : Row) → ever-in (MadeAt s own r) → ever-in (MadeAt (other s) their-own t) → Loses s r t →
+      (own their_own : ℕ) (r t : Row) → ever_in (MadeAt s own r) → ever_in (MadeAt (other s) their_own t) → Loses s r t →
       InNeither s own r.peer w
   -- the other, or the only one, is in both, unless an end accepted a rekey or a delete of it
   pub successor :
-      (own : ℕ) (r : Row) → ever-in (MadeAt s own r) →
-      ((their-own : ℕ) (t : Row) → ever-in (MadeAt (other s) their-own t) → Loses s r t → ⊥) → (gave s own → ⊥) →
+      (own : ℕ) (r : Row) → ever_in (MadeAt s own r) →
+      ((their_own : ℕ) (t : Row) → ever_in (MadeAt (other s) their_own t) → Loses s r t → ⊥) → (gave s own → ⊥) →
       (gave (other s) r.peer → ⊥) → InBoth s own r.peer w
 
 -- Rounds since the last accepted ask, and whether a delivery to A has begun the next one. A round is a delivery to A and then one

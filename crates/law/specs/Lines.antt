@@ -26,7 +26,7 @@ pub data Line : Type 0 where
   -- with these nonces, of A's exchange and then of B's, this side's new SA loses
   loses : (ia ra ib rb : List ℕ) → Side → Line
   -- the exchange with the first two nonces beats the one with the last two, whoever began which
-  beats : (i r lower-i lower-r : List ℕ) → Line
+  beats : (i r lower_i lower_r : List ℕ) → Line
   -- behind the IKE SPIs, the message has these octets
   written : (ℕ → ℕ → Message (List ℕ)) → List ℕ → Line
   -- reading these octets is refused with this number

@@ -86,11 +86,11 @@ rekey_of e s peer ni nr r =
 
 -- a Closing or Superseded row is not rekeyed now
 abbrev pub rekey_by_state : RowState → Doing → Doing → Doing
-rekey_by_state Opening not-now d = d
-rekey_by_state Fresh not-now d = d
-rekey_by_state Standing not-now d = d
-rekey_by_state Superseded not-now d = not-now
-rekey_by_state Closing not-now d = not-now
+rekey_by_state Opening not_now d = d
+rekey_by_state Fresh not_now d = d
+rekey_by_state Standing not_now d = d
+rekey_by_state Superseded not_now d = not_now
+rekey_by_state Closing not_now d = not_now
 
 abbrev pub rekey_found : End → Shelf → ℕ → ℕ → List ℕ → List ℕ → Option Row → Doing
 rekey_found e s old peer ni nr None = says_only e s (response.Failed (ChildSaNotFound old))

@@ -43,7 +43,7 @@ is_side B A = false
 is_side B B = true
 
 -- whose new SA loses: own is the exchange that this side began, theirs the peer's
-abbrev pub collision_loser : Side → (own-i own-r their-i their-r : List ℕ) → Side
+abbrev pub collision_loser : Side → (own_i own_r their_i their_r : List ℕ) → Side
 collision_loser A oi or ti tr = loser_by (lowest_of oi or ti tr)
 collision_loser B oi or ti tr = loser_by (lowest_of ti tr oi or)
 

@@ -45,10 +45,10 @@ msg_back : (m : Msg) → msg_of (id_of m) (body_of m) ≡ m
 msg_back (request id q) = refl
 msg_back (response id r) = refl
 
-module _ (i r : ℕ) (fits-i : i < 2 ^ 64) (fits-r : r < 2 ^ 64) where
+module _ (i r : ℕ) (fits_i : i < 2 ^ 64) (fits_r : r < 2 ^ 64) where
   valid : (s : Side) (m : Msg) → Sendable m → Valid (message i r s m)
-  valid s (request id q) (b, g) = record { initiator = fits-i; responder = fits-r; id = b; body = valid_request q g }
-  valid s (response id p) (b, g) = record { initiator = fits-i; responder = fits-r; id = b; body = valid_response p g }
+  valid s (request id q) (b, g) = record { initiator = fits_i; responder = fits_r; id = b; body = valid_request q g }
+  valid s (response id p) (b, g) = record { initiator = fits_i; responder = fits_r; id = b; body = valid_response p g }
 
   from : (s : Side) (m : Msg) → is_from i r s (message i r s m) ≡ true
   from s m = and_from _ _ (eq-eqb i i refl) (and_from _ _ (eq-eqb r r refl) (same_side s))

@@ -1,7 +1,7 @@
 -- Asks and settles of nodes are those of ends.
 use Rattle.std.proofs.Common.{◌≡◌, ℕ, suc, Bool, true, false, ◌⊎◌, List, Some, None, Option, sym, refl, subst, subst₂, inl, arith}
 use mathlib.Core.Path.{fun_ext}
-use Rattle.protocol.specs.Model.{Nonce, fresh, standing, superseded, closing, Sa, Seed, Cell, opening, live, Book, put, Coll, alone, met, Ask, create, rekey, delete, check, Reply, made, no_such, refused, done, Why, given-up, lost, mark, loses, grown, plain, Link, quiet, sent, answered, End, with_both, Asks, ask_check, ask_create, ask_rekey, ask_delete, Settles, settle_check, settle_delete, settle_create, create_refused, rekey_refused, rekey_no_such, rekey_lost, rekey_won, rekey_won_gone}
+use Rattle.protocol.specs.Model.{Nonce, fresh, standing, superseded, closing, Sa, Seed, Cell, opening, live, Book, put, Coll, alone, met, Ask, create, rekey, delete, check, Reply, made, no_such, refused, done, Why, given_up, lost, mark, loses, grown, plain, Link, quiet, sent, answered, End, with_both, Asks, ask_check, ask_create, ask_rekey, ask_delete, Settles, settle_check, settle_delete, settle_create, create_refused, rekey_refused, rekey_no_such, rekey_lost, rekey_won, rekey_won_gone}
 use Rattle.protocol.specs.Invariant.{Own, LinkOwned}
 use Rattle.protocol.specs.Rows.{Line, lookup, insert, remove, ordered}
 use Rattle.protocol.specs.Node.{stored, Out, idle, asked, Node, link_of, Ghost, end_of, InStep, sending}
@@ -47,10 +47,10 @@ module _ (γ : Ghost) (P Q : Node) (steps : InStep P Q) where
   abbrev with_given : (ℕ → Why) → Ghost
   with_given x = record { born_here = γ.born_here; given = x }
 
-  learns : (named : ℕ → Type 0) (x : ℕ → Why) (P' : Node) → ((k : ℕ) → x k ≡ given-up → (γ.given k ≡ given-up) ⊎ named k) → Learnt named γ (with_given x) P'
+  learns : (named : ℕ → Type 0) (x : ℕ → Why) (P' : Node) → ((k : ℕ) → x k ≡ given_up → (γ.given k ≡ given_up) ⊎ named k) → Learnt named γ (with_given x) P'
   learns named x P' h = record { keeps = λ k s e. e; only = λ k s e. inl e; gave = h }
 
-  marked : (x k : ℕ) → mark γ.given x given-up k ≡ given-up → (γ.given k ≡ given-up) ⊎ (x ≡ k)
+  marked : (x k : ℕ) → mark γ.given x given_up k ≡ given_up → (γ.given k ≡ given_up) ⊎ (x ≡ k)
   marked x k e = grind arith
 
   -- what P has asked for, as the model has it, and what it has given up by it
@@ -72,17 +72,17 @@ module _ (γ : Ghost) (P Q : Node) (steps : InStep P Q) where
       let r = standing_row x (rekeying P x n) P' (lookup P.rows x) e in
       let d = seed_of x r.0.peer n in
       record {
-        ghost = with_given (mark γ.given x given-up);
-        asks = subst (λ (y : Node). Asks E (end_of (with_given (mark γ.given x given-up)) y Q)) (sym r.2)
-            (sends _ _ _ (mark γ.given x given-up) _ o (lookup_insert P.spi (opening d) P.rows) (ask_rekey x r.0 d (was_quiet o) r.1 refl refl refl));
+        ghost = with_given (mark γ.given x given_up);
+        asks = subst (λ (y : Node). Asks E (end_of (with_given (mark γ.given x given_up)) y Q)) (sym r.2)
+            (sends _ _ _ (mark γ.given x given_up) _ o (lookup_insert P.spi (opening d) P.rows) (ask_rekey x r.0 d (was_quiet o) r.1 refl refl refl));
         learnt = learns _ _ _ (marked x);
       }
   quiet_asks o (to_delete x) P' e =
       let r = standing_row x (deleting P x) P' (lookup P.rows x) e in
       record {
-        ghost = with_given (mark γ.given x given-up);
-        asks = subst (λ (y : Node). Asks E (end_of (with_given (mark γ.given x given-up)) y Q)) (sym r.2)
-            (sends _ _ _ (mark γ.given x given-up) _ o (lookup_insert x (live closing r.0) P.rows) (ask_delete x r.0 (was_quiet o) r.1));
+        ghost = with_given (mark γ.given x given_up);
+        asks = subst (λ (y : Node). Asks E (end_of (with_given (mark γ.given x given_up)) y Q)) (sym r.2)
+            (sends _ _ _ (mark γ.given x given_up) _ o (lookup_insert x (live closing r.0) P.rows) (ask_delete x r.0 (was_quiet o) r.1));
         learnt = learns _ _ _ (marked x);
       }
   quiet_asks o to_check P' e =
@@ -150,7 +150,7 @@ module _ (γ : Ghost) (P Q : Node) (i : ℕ) (steps : InStep P Q) (asc : ordered
   plainly : (P' : Node) → Settles F (end_of γ P' Q) → SettlesAs P'
   plainly P' h = record { ghost = γ; settles = h; learnt = record { keeps = λ k s e. e; only = λ k s e. inl e; gave = λ k e. inl e } }
 
-  not_marked : (x j k : ℕ) → mark γ.given x (lost j) k ≡ given-up → γ.given k ≡ given-up
+  not_marked : (x j k : ℕ) → mark γ.given x (lost j) k ≡ given_up → γ.given k ≡ given_up
   not_marked x j k e = grind arith
 
   losing : (P' : Node) (x j : ℕ) → Settles F (end_of (record { born_here = γ.born_here; given = mark γ.given x (lost j) }) P' Q) → SettlesAs P'

@@ -1,6 +1,6 @@
 -- More of every abstract run: who is first, what is lost, and that an SA has one heir of each end.
 use Rattle.std.proofs.Common.{◌≡◌, ℕ, true, false, List, Some, None, Option, refl, ◌∙◌, arith}
-use Rattle.protocol.specs.Model.{standing, Sa, Seed, live, put, mark, born, Coll, create, rekey, given-up, lost, sent, answered, End, Asks, ask_check, ask_create, ask_rekey, ask_delete, Acts, act_check, refuse_create, act_create, refuse_rekey, rekey_none, act_rekey, delete_none, delete_closing, delete_row, Settles, settle_check, settle_delete, settle_create, create_refused, rekey_refused, rekey_no_such, rekey_lost, rekey_won, rekey_won_gone}
+use Rattle.protocol.specs.Model.{standing, Sa, Seed, live, put, mark, born, Coll, create, rekey, given_up, lost, sent, answered, End, Asks, ask_check, ask_create, ask_rekey, ask_delete, Acts, act_check, refuse_create, act_create, refuse_rekey, rekey_none, act_rekey, delete_none, delete_closing, delete_row, Settles, settle_check, settle_delete, settle_create, create_refused, rekey_refused, rekey_no_such, rekey_lost, rekey_won, rekey_won_gone}
 use Rattle.protocol.specs.Invariant.{Half, Inv, Own, Used, Made, Rekeyed, Faced}
 use Rattle.protocol.specs.Law.{State, Step, asks, answers, settles, swapped, Run, start, then, begin}
 use Rattle.protocol.proofs.Kept.{run_keeps, asked_of}
@@ -16,7 +16,7 @@ pub record More (P : End) : Type 0 where
   pub apart : LostApart P
   pub one : OneHeir P
 
-unmarked : (P : End) (x k j : ℕ) → mark P.given x given-up k ≡ lost j → P.given k ≡ lost j
+unmarked : (P : End) (x k j : ℕ) → mark P.given x given_up k ≡ lost j → P.given k ≡ lost j
 unmarked P x k j e = grind arith
 
 asks_more : {P P' : End} → Asks P P' → More P → More P'

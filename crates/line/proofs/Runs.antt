@@ -1,6 +1,6 @@
 -- What holds at every moment of a run of calls.
 use Rattle.std.proofs.Common.{◌≡◌, ℕ, false, ◌⊎◌, List, [], ◌∷◌, Some, sym, refl, ap, subst, subst₂, inl, inr, ⊎_elim, arith}
-use Rattle.protocol.specs.Model.{quiet, Sa, St, live, given-up, End}
+use Rattle.protocol.specs.Model.{quiet, Sa, St, live, given_up, End}
 use Rattle.protocol.specs.Invariant.{Known}
 use Rattle.protocol.specs.Law.{State, swapped, begin}
 use Rattle.protocol.specs.Law as law
@@ -33,19 +33,19 @@ Among F [] = ⊥
 Among F (u ∷ us) = F u ⊎ Among F us
 
 -- what is known of an end is what its books had at the moments us, and what it was asked
-pub record Told {W : Type 0} (node : W → Node) (us : List W) (γ : Ghost) (asked-for : ℕ → Type 0) : Type 0 where
+pub record Told {W : Type 0} (node : W → Node) (us : List W) (γ : Ghost) (asked_for : ℕ → Type 0) : Type 0 where
   pub born : (k : ℕ) (s : Sa) → γ.born_here k ≡ Some s → Among (λ (u : W). Has (node u) k s) us
   pub kept : (k : ℕ) (s : Sa) → Among (λ (u : W). Has (node u) k s) us → γ.born_here k ≡ Some s
-  pub gave : (k : ℕ) → γ.given k ≡ given-up → asked-for k
+  pub gave : (k : ℕ) → γ.given k ≡ given_up → asked_for k
 
 -- no ghost is part of the world: there are some
-pub record Alive {C : Type 0} (K : Coding) (meaning : C → Meaning) (asked-for : Side → ℕ → Type 0) (us : List (World C)) (w : World C) : Type 0 where
+pub record Alive {C : Type 0} (K : Coding) (meaning : C → Meaning) (asked_for : Side → ℕ → Type 0) (us : List (World C)) (w : World C) : Type 0 where
   pub between : Between K A w.a w.b ((meaning w.ch).may A) ((meaning w.ch).may B)
   pub ghost_a : Ghost
   pub ghost_b : Ghost
   pub lived : Lived (state ghost_a ghost_b w.a w.b)
-  pub told_a : Told (λ (u : World C). u.a) us ghost_a (asked-for A)
-  pub told_b : Told (λ (u : World C). u.b) us ghost_b (asked-for B)
+  pub told_a : Told (λ (u : World C). u.a) us ghost_a (asked_for A)
+  pub told_b : Told (λ (u : World C). u.b) us ghost_b (asked_for B)
 
 goes_on : (v w : State) → Lived v → Moved v w → Lived w
 goes_on v w l m = ⊎_elim (λ e. subst Lived e l) (λ x. record { key_a = l.key_a; key_b = l.key_b; past = v ∷ l.past; run = law.then l.run x }) m
@@ -68,13 +68,13 @@ has_known α β P Q k s h x = known_row (end_of α P Q) (end_of β Q P) k x.st s
 
 -- a moment more
 tells :
-    {W : Type 0} (node : W → Node) (us : List W) (w : W) (γ γ' : Ghost) (asked-for named : ℕ → Type 0)
-    → Told node us γ asked-for
+    {W : Type 0} (node : W → Node) (us : List W) (w : W) (γ γ' : Ghost) (asked_for named : ℕ → Type 0)
+    → Told node us γ asked_for
     → Learnt named γ γ' (node w)
-    → ((k : ℕ) → named k → asked-for k)
+    → ((k : ℕ) → named k → asked_for k)
     → ((k : ℕ) (s : Sa) → Has (node w) k s → γ'.born_here k ≡ Some s)
-    → Told node (w ∷ us) γ' asked-for
-tells node us w γ γ' asked-for named t l n h =
+    → Told node (w ∷ us) γ' asked_for
+tells node us w γ γ' asked_for named t l n h =
     record {
       born = λ k s e. ⊎_elim (λ x. inr (t.born k s x)) (λ x. inl x) (l.only k s e);
       kept = λ k s e. ⊎_elim (λ x. h k s x) (λ x. l.keeps k s (t.kept k s x)) e;
@@ -84,9 +84,9 @@ tells node us w γ γ' asked-for named t l n h =
 unchanged : (γ : Ghost) (P : Node) → Learnt (λ _. ⊥) γ γ P
 unchanged γ P = record { keeps = λ k s e. e; only = λ k s e. inl e; gave = λ k e. inl e }
 
-module _ {C : Type 0} (K : Coding) (meaning : C → Meaning) (asked-for : Side → ℕ → Type 0) where
+module _ {C : Type 0} (K : Coding) (meaning : C → Meaning) (asked_for : Side → ℕ → Type 0) where
   pub step_alive : (us : List (World C)) (v : World C) (s : Side) (x : Call) (r : Answer) (w : World C) → StepOn K meaning s v x r w
-      → ((k : ℕ) → GivesUp x r k → asked-for s k) → Alive K meaning asked-for us v → Alive K meaning asked-for (w ∷ us) w
+      → ((k : ℕ) → GivesUp x r k → asked_for s k) → Alive K meaning asked_for us v → Alive K meaning asked_for (w ∷ us) w
   step_alive us v A x r w h n l =
       let i = run_keeps l.lived.run in
       let f = run_fits l.lived.run in
@@ -99,9 +99,9 @@ module _ {C : Type 0} (K : Coding) (meaning : C → Meaning) (asked-for : Side �
         ghost_a = k.ghost;
         ghost_b = l.ghost_b;
         lived = new;
-        told_a = tells (λ (u : World C). u.a) us w l.ghost_a k.ghost (asked-for A) (GivesUp x r) l.told_a k.learnt n (λ y z. has_known k.ghost l.ghost_b w.a w.b y z j.here.known);
+        told_a = tells (λ (u : World C). u.a) us w l.ghost_a k.ghost (asked_for A) (GivesUp x r) l.told_a k.learnt n (λ y z. has_known k.ghost l.ghost_b w.a w.b y z j.here.known);
         told_b =
-            tells (λ (u : World C). u.b) us w l.ghost_b l.ghost_b (asked-for B) (λ _. ⊥) l.told_b (unchanged l.ghost_b w.b) (λ k e. absurd e)
+            tells (λ (u : World C). u.b) us w l.ghost_b l.ghost_b (asked_for B) (λ _. ⊥) l.told_b (unchanged l.ghost_b w.b) (λ k e. absurd e)
             (λ y z. has_known l.ghost_b k.ghost w.b w.a y z j.there.known);
       }
   step_alive us v B x r w h n l =
@@ -120,14 +120,14 @@ module _ {C : Type 0} (K : Coding) (meaning : C → Meaning) (asked-for : Side �
         ghost_b = k.ghost;
         lived = new;
         told_a =
-            tells (λ (u : World C). u.a) us w l.ghost_a l.ghost_a (asked-for A) (λ _. ⊥) l.told_a (unchanged l.ghost_a w.a) (λ k e. absurd e)
+            tells (λ (u : World C). u.a) us w l.ghost_a l.ghost_a (asked_for A) (λ _. ⊥) l.told_a (unchanged l.ghost_a w.a) (λ k e. absurd e)
             (λ y z. has_known l.ghost_a k.ghost w.a w.b y z j.here.known);
-        told_b = tells (λ (u : World C). u.b) us w l.ghost_b k.ghost (asked-for B) (GivesUp x r) l.told_b k.learnt n (λ y z. has_known k.ghost l.ghost_a w.b w.a y z j.there.known);
+        told_b = tells (λ (u : World C). u.b) us w l.ghost_b k.ghost (asked_for B) (GivesUp x r) l.told_b k.learnt n (λ y z. has_known k.ghost l.ghost_a w.b w.a y z j.there.known);
       }
 
   pub run_alive : (us : List (World C)) (v : World C) (xs : List Move) (rs : List Answer) (w : World C) (h : world.Run K meaning v xs rs w)
-      → ((s : Side) (k : ℕ) → GivenUpBy xs rs s k → asked-for s k) → Alive K meaning asked-for us v → Alive K meaning asked-for (trail K meaning us v xs rs w h) w
-  run_alive us v [] [] w h n l = subst (λ (x : World C). Alive K meaning asked-for us x) h l
+      → ((s : Side) (k : ℕ) → GivenUpBy xs rs s k → asked_for s k) → Alive K meaning asked_for us v → Alive K meaning asked_for (trail K meaning us v xs rs w h) w
+  run_alive us v [] [] w h n l = subst (λ (x : World C). Alive K meaning asked_for us x) h l
   run_alive us v [] (r ∷ rs) w h n l = elim h [ ]
   run_alive us v (x ∷ xs) [] w h n l = elim h [ ]
   run_alive us v (x ∷ xs) (r ∷ rs) w h n l =
@@ -145,7 +145,7 @@ module _ {C : Type 0} (K : Coding) (meaning : C → Meaning) (asked-for : Side �
         gave = λ k e. absurd (let z : ◌≡◌ {A = ℕ} 0 1 = cc in omega arith);
       }
 
-  pub starts : (v : World C) → Start K meaning v → Alive K meaning asked-for (v ∷ []) v
+  pub starts : (v : World C) → Start K meaning v → Alive K meaning asked_for (v ∷ []) v
   starts v h =
       record {
         between =
@@ -155,8 +155,8 @@ module _ {C : Type 0} (K : Coding) (meaning : C → Meaning) (asked-for : Side �
         ghost_b = blank;
         lived =
             subst₂ (λ (M N : Node). Lived (state blank blank M N)) (sym h.a_made) (sym h.b_made) (record { key_a = h.spi_a; key_b = h.spi_b; past = []; run = law.start });
-        told_a = fresh_told (λ (u : World C). u.a) v (asked-for A) (ap (λ (N : Node). N.rows) h.a_made);
-        told_b = fresh_told (λ (u : World C). u.b) v (asked-for B) (ap (λ (N : Node). N.rows) h.b_made);
+        told_a = fresh_told (λ (u : World C). u.a) v (asked_for A) (ap (λ (N : Node). N.rows) h.a_made);
+        told_b = fresh_told (λ (u : World C). u.b) v (asked_for B) (ap (λ (N : Node). N.rows) h.b_made);
       }
 
 pub quiet_link : (P Q : Node) → P.out ≡ idle → link_of P Q ≡ quiet

@@ -1,6 +1,6 @@
 -- What has become of the SAs of a run.
 use Rattle.std.proofs.Common.{◌≡◌, ℕ, Bool, true, false, ◌⊎◌, List, [], ◌∷◌, Some, None, Option, refl, subst, inl, inr, ⊎_elim, arith}
-use Rattle.protocol.specs.Model.{Sa, Why, kept, given-up, lost}
+use Rattle.protocol.specs.Model.{Sa, Why, kept, given_up, lost}
 use Rattle.protocol.specs.Invariant.{Loses, LostTo}
 use Rattle.protocol.specs.Law.{Fate, FateAt, GoneWith}
 use Rattle.protocol.specs.Rows.{lookup}
@@ -50,22 +50,22 @@ module _ {C : Type 0} (K : Coding) (meaning : C → Meaning) (F : World C → Ty
   from_trail us v (x ∷ xs) (r ∷ rs) w h e =
       ⊎_elim (λ y. ⊎_elim (λ z. inr (inr (ever_now h.0 xs rs w h.2 z))) inl y) (λ y. inr (inr y)) (from_trail (h.0 ∷ us) h.0 xs rs w h.2 e)
 
-module _ {C : Type 0} (p q : World C → Node) (first : Bool) (side-p side-q : Side) (ev : (World C → Type 0) → Type 0) (given : Side → ℕ → Type 0) (us : List (World C)) (w : World C)
+module _ {C : Type 0} (p q : World C → Node) (first : Bool) (side_p side_q : Side) (ev : (World C → Type 0) → Type 0) (given : Side → ℕ → Type 0) (us : List (World C)) (w : World C)
     (to : (F : World C → Type 0) → ev F → Among F us) (back : (F : World C → Type 0) → Among F us → ev F) (α β : Ghost)
-    (told-p : Told p us α (given side-p)) (told-q : Told q us β (given side-q))
-    (is-first : (q w).first ≡ first) (more : More (end_of α (p w) (q w)))
+    (told_p : Told p us α (given side_p)) (told_q : Told q us β (given side_q))
+    (is_first : (q w).first ≡ first) (more : More (end_of α (p w) (q w)))
     (old : (k : ℕ) → GoneWith (lookup (p w).rows) (lookup (q w).rows) (α.born_here k))
     (fate : (k : ℕ) → FateAt (end_of α (p w) (q w)) (end_of β (q w) (p w)) k (α.born_here k)) where
   is_born : (k : ℕ) (s : Sa) → ev (λ u. Has (p u) k s) → α.born_here k ≡ Some s
-  is_born k s e = told-p.kept k s (to (λ u. Has (p u) k s) e)
+  is_born k s e = told_p.kept k s (to (λ u. Has (p u) k s) e)
 
   fate_of : (k : ℕ) (s : Sa) → ev (λ u. Has (p u) k s) → Fate (end_of α (p w) (q w)) (end_of β (q w) (p w)) k s
   fate_of k s e = subst (FateAt (end_of α (p w) (q w)) (end_of β (q w) (p w)) k) (is_born k s e) (fate k)
 
   -- an end has given up what it made for its peer only by an ask
-  not_given : (k : ℕ) (s : Sa) → α.born_here k ≡ Some s → (given side-p k → ⊥) → (y : Why) → α.given k ≡ y → α.given k ≡ kept
+  not_given : (k : ℕ) (s : Sa) → α.born_here k ≡ Some s → (given side_p k → ⊥) → (y : Why) → α.given k ≡ y → α.given k ≡ kept
   not_given k s b n kept e = e
-  not_given k s b n given-up e = absurd (n (told-p.gave k e))
+  not_given k s b n given_up e = absurd (n (told_p.gave k e))
   not_given k s b n (lost j) e = absurd (let x = more.apart k j e in let z : ◌≡◌ {A = ℕ} 0 1 = cc in omega arith)
 
   -- the peer has given it up only by an ask, or as the loser
@@ -73,25 +73,25 @@ module _ {C : Type 0} (p q : World C → Node) (first : Bool) (side-p side-q : S
       (k : ℕ) (s : Sa)
       → Fate (end_of α (p w) (q w)) (end_of β (q w) (p w)) k s
       → ((j : ℕ) (t : Sa) → ev (λ u. Has (q u) j t) → Loses first s t → ⊥)
-      → (given side-q s.peer → ⊥)
+      → (given side_q s.peer → ⊥)
       → (y : Why)
       → β.given s.peer ≡ y
       → β.given s.peer ≡ kept
   not_lost k s f beat n kept e = e
-  not_lost k s f beat n given-up e = absurd (n (told-q.gave s.peer e))
+  not_lost k s f beat n given_up e = absurd (n (told_q.gave s.peer e))
   not_lost k s f beat n (lost j) e = absurd (by (β.born_here j) refl (f.lost_truly j e))
     where
       by : (x : Option Sa) → β.born_here j ≡ x → LostTo (q w).first s x → ⊥
       by None b l = l
-      by (Some t) b l = beat j t (back (λ u. Has (q u) j t) (told-q.born j t b)) (rw is-first at l)
+      by (Some t) b l = beat j t (back (λ u. Has (q u) j t) (told_q.born j t b)) (rw is_first at l)
 
-  pub succeeds : Succeeds p q first side-p side-q ev given w
+  pub succeeds : Succeeds p q first side_p side_q ev given w
   succeeds =
       record {
         old_gone = λ k s e h. subst (GoneWith (lookup (p w).rows) (lookup (q w).rows)) (is_born k s e) (old k) h;
         one = λ k l s t e f. more.one k l s t (is_born k s e) (is_born l t f);
         loser_gone =
-            λ k j s t e f l. (fate_of k s e).loser_gone j t (told-q.kept j t (to (λ u. Has (q u) j t) f)) (rw is-first l);
+            λ k j s t e f l. (fate_of k s e).loser_gone j t (told_q.kept j t (to (λ u. Has (q u) j t) f)) (rw is_first l);
         successor =
             λ k s e beat m n. let f = fate_of k s e in
             f.stands (not_given k s (is_born k s e) m (α.given k) refl) (not_lost k s f beat n (β.given s.peer) refl);

@@ -1,6 +1,6 @@
 -- What no code holds, and how it grows.
 use Rattle.std.specs.Prelude.{◌≡◌, ℕ, false, ◌⊎◌, Some, None}
-use Rattle.protocol.specs.Model.{St, Sa, live, kept, given-up}
+use Rattle.protocol.specs.Model.{St, Sa, live, kept, given_up}
 use Rattle.protocol.specs.Rows.{lookup}
 use Rattle.protocol.specs.Law.{State}
 use Rattle.protocol.specs.Node.{Ghost, Node, end_of}
@@ -30,7 +30,7 @@ GivesUp (deliver n) r k = ⊥
 pub record Learnt (named : ℕ → Type 0) (g g' : Ghost) (P' : Node) : Type 0 where
   pub keeps : (k : ℕ) (s : Sa) → g.born_here k ≡ Some s → g'.born_here k ≡ Some s
   pub only : (k : ℕ) (s : Sa) → g'.born_here k ≡ Some s → (g.born_here k ≡ Some s) ⊎ Has P' k s
-  pub gave : (k : ℕ) → g'.given k ≡ given-up → (g.given k ≡ given-up) ⊎ named k
+  pub gave : (k : ℕ) → g'.given k ≡ given_up → (g.given k ≡ given_up) ⊎ named k
 
 abbrev pub blank : Ghost
 blank = record { born_here = λ _. None; given = λ _. kept }

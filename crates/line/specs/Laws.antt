@@ -16,7 +16,7 @@ pub record Mirrors {C : Type 0} (w : World C) : Type 0 where
 
 -- What has become, once both ends are quiet, of the SAs that the end p made for the end q at its requests.
 -- ever: at some moment of the run; given s k: the end of the side s was asked, and took it, to rekey or delete the SA of its SPI k; first: q is A
-pub record Succeeds {C : Type 0} (p q : World C → Node) (first : Bool) (side-p side-q : Side) (ever : (World C → Type 0) → Type 0) (given : Side → ℕ → Type 0) (w : World C) : Type 0 where
+pub record Succeeds {C : Type 0} (p q : World C → Node) (first : Bool) (side_p side_q : Side) (ever : (World C → Type 0) → Type 0) (given : Side → ℕ → Type 0) (w : World C) : Type 0 where
   -- the SA that was rekeyed is in neither book
   pub old_gone :
       (k : ℕ) (s : Sa)
@@ -44,6 +44,6 @@ pub record Succeeds {C : Type 0} (p q : World C → Node) (first : Bool) (side-p
       (k : ℕ) (s : Sa)
       → ever (λ u. Has (p u) k s)
       → ((j : ℕ) (t : Sa) → ever (λ u. Has (q u) j t) → Loses first s t → ⊥)
-      → (given side-p k → ⊥)
-      → (given side-q s.peer → ⊥)
+      → (given side_p k → ⊥)
+      → (given side_q s.peer → ⊥)
       → ((t : St) × (lookup (p w).rows k ≡ Some (live t s))) × ((t : St) × (lookup (q w).rows s.peer ≡ Some (live t (mirror k s))))

@@ -59,15 +59,15 @@ pub record Sane (K : Coding) (P : Node) : Type 0 where
   pub made_high : high (stored P.reply)
 
 -- the ends P, of the side s, and Q, and what may come to each
-pub record Between (K : Coding) (s : Side) (P Q : Node) (to-p to-q : List ℕ → Type 0) : Type 0 where
+pub record Between (K : Coding) (s : Side) (P Q : Node) (to_p to_q : List ℕ → Type 0) : Type 0 where
   pub p_steps : InStep P Q
   pub q_steps : InStep Q P
   pub p_sane : Sane K P
   pub q_sane : Sane K Q
   pub p_rows : ordered P.rows
   pub q_rows : ordered Q.rows
-  pub from_p : Line K s P Q to-q
-  pub from_q : Line K (other s) Q P to-p
+  pub from_p : Line K s P Q to_q
+  pub from_q : Line K (other s) Q P to_p
 
 -- a reply fits its request, and a create has no parent
 abbrev pub FitAsk : Ask → Type 0

@@ -1,11 +1,11 @@
 -- An end asks for a delete of a standing row.
 use Rattle.std.proofs.Common.{◌≡◌, ℕ, Some, arith}
-use Rattle.protocol.specs.Model.{standing, closing, Sa, live, put, with_both, giving, given-up, delete, quiet, sent, End}
+use Rattle.protocol.specs.Model.{standing, closing, Sa, live, put, with_both, giving, given_up, delete, quiet, sent, End}
 use Rattle.protocol.specs.Invariant.{Half, Row, Own, Faced, Request, Worn, Clash, Known, Made, Rekeyed, Given, Used, Kept, Lost, Collided, Met}
 
 module _ (P Q : End) (x : ℕ) (a : Sa) (was : P.link ≡ quiet) (row : P.book x ≡ Some (live standing a)) where
   abbrev P' : End
-  P' = giving (with_both P (put P.book x (Some (live closing a))) (sent (delete x))) x given-up
+  P' = giving (with_both P (put P.book x (Some (live closing a))) (sent (delete x))) x given_up
 
   p_rows : (k : ℕ) → Row P k → Row P' k
   p_rows k f = grind arith

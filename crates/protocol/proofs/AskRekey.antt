@@ -1,12 +1,12 @@
 -- An end asks for a rekey of a standing row.
 use Rattle.std.proofs.Common.{◌≡◌, ℕ, true, Some, None, arith}
-use Rattle.protocol.specs.Model.{standing, Sa, Seed, opening, live, with_new, giving, given-up, alone, rekey, quiet, sent, End}
+use Rattle.protocol.specs.Model.{standing, Sa, Seed, opening, live, with_new, giving, given_up, alone, rekey, quiet, sent, End}
 use Rattle.protocol.proofs.Common.{fresh_key}
 use Rattle.protocol.specs.Invariant.{Half, Row, Own, Faced, Request, Worn, Clash, Known, Made, Rekeyed, Given, Used, Kept, Lost, Collided, Met}
 
 module _ (P Q : End) (x : ℕ) (a : Sa) (d : Seed) (was : P.link ≡ quiet) (row : P.book x ≡ Some (live standing a)) (heir : d.heir ≡ true) (old : d.po ≡ x) (older : d.pp ≡ a.peer) where
   abbrev P' : End
-  P' = giving (with_new P P.book (opening d) (sent (rekey P.spi d alone))) x given-up
+  P' = giving (with_new P P.book (opening d) (sent (rekey P.spi d alone))) x given_up
 
   p_rows : (k : ℕ) → Row P k → Row P' k
   p_rows k f = grind arith

@@ -1,6 +1,6 @@
 -- What holds of two ends at every moment.
 use Rattle.std.specs.Prelude.{◌≡◌, ℕ, ◌<◌, Bool, true, false, not, ◌⊎◌, Some, None, Option, ◌≢◌}
-use Rattle.protocol.specs.Model.{Nonce, St, fresh, standing, superseded, closing, Sa, Seed, Cell, opening, live, Book, mirror, born, NoRowFor, loses, lose, Why, kept, given-up, lost, Coll, alone, met, Ask, create, rekey, delete, check, made, no_such, refused, done, Link, quiet, sent, answered, End}
+use Rattle.protocol.specs.Model.{Nonce, St, fresh, standing, superseded, closing, Sa, Seed, Cell, opening, live, Book, mirror, born, NoRowFor, loses, lose, Why, kept, given_up, lost, Coll, alone, met, Ask, create, rekey, delete, check, made, no_such, refused, done, Link, quiet, sent, answered, End}
 
 -- the request opens the key k with the seed d
 abbrev pub asks_open : Ask → ℕ → Seed → Type 0
@@ -346,7 +346,7 @@ RowKnown g f k (Some (live s a)) = SaKnown a.mine g f k a
 
 abbrev pub IsGiven : Why → Type 0
 IsGiven kept = ⊥
-IsGiven given-up = Unit {0}
+IsGiven given_up = Unit {0}
 IsGiven (lost j) = Unit {0}
 
 -- what an end's request Closes it has given up, and what it opens it has not
@@ -363,7 +363,7 @@ LinkGiven g (answered a r) = AskGiven g a
 
 abbrev pub GivenBelow : ℕ → ℕ → Why → Type 0
 GivenBelow i k kept = Unit {0}
-GivenBelow i k given-up = k < i
+GivenBelow i k given_up = k < i
 GivenBelow i k (lost j) = k < i
 
 -- the row that an end made, and the one that it was made for, while neither end has given it up
@@ -385,9 +385,9 @@ PeersStands (Some (live closing a)) = ⊥
 
 abbrev pub StandIf : Why → Why → Option Cell → Option Cell → Type 0
 StandIf kept kept p q = OwnStands p × PeersStands q
-StandIf kept given-up p q = Unit {0}
+StandIf kept given_up p q = Unit {0}
 StandIf kept (lost j) p q = Unit {0}
-StandIf given-up v p q = Unit {0}
+StandIf given_up v p q = Unit {0}
 StandIf (lost j) v p q = Unit {0}
 
 abbrev pub KeptAt : (ℕ → Why) → (ℕ → Why) → Book → Book → ℕ → Option Sa → Type 0
@@ -408,7 +408,7 @@ LostTo w s (Some t) = Loses w s t
 
 abbrev pub LostIf : Bool → (ℕ → Option Sa) → Sa → Why → Type 0
 LostIf w f s kept = Unit {0}
-LostIf w f s given-up = Unit {0}
+LostIf w f s given_up = Unit {0}
 LostIf w f s (lost j) = LostTo w s (f j)
 
 abbrev pub LostAt : Bool → (ℕ → Option Sa) → (ℕ → Why) → Option Sa → Type 0

@@ -75,7 +75,7 @@ pub data Link : Type 0 where
 
 -- whether an end has given an SA up, by an own request to delete or rekey it, or as the loser against the SA of the row j
 pub data Why : Type 0 where
-  kept given-up : Why
+  kept given_up : Why
   lost : ℕ → Why
 
 pub record End : Type 0 where
@@ -178,12 +178,12 @@ pub data Asks (P : End) : End → Type 0 where
       → d.heir ≡ true
       → d.po ≡ x
       → d.pp ≡ a.peer
-      → Asks P (giving (with_new P P.book (opening d) (sent (rekey P.spi d alone))) x given-up)
+      → Asks P (giving (with_new P P.book (opening d) (sent (rekey P.spi d alone))) x given_up)
   ask_delete :
       (x : ℕ) (a : Sa)
       → P.link ≡ quiet
       → P.book x ≡ Some (live standing a)
-      → Asks P (giving (with_both P (put P.book x (Some (live closing a))) (sent (delete x))) x given-up)
+      → Asks P (giving (with_both P (put P.book x (Some (live closing a))) (sent (delete x))) x given_up)
 
 -- Q, whose rows have been calmed, processes the request of P: what both are then
 pub data Acts (P Q : End) : End → End → Type 0 where
