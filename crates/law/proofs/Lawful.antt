@@ -42,7 +42,7 @@ use Rattle.law.specs.Cells.{is_mine, is_heir, sa_of, cell_by, cell_in, lines}
 use Rattle.law.specs.Ends.{End, Outstanding, made_end}
 use Rattle.law.specs.Runs.{World, at, Called, Run, Fit, Start, ever}
 use Rattle.law.specs.Laws as laws
-use Rattle.law.specs.Laws.{row_of, Quiet, Mirrored, MadeAt, InNeither, InBook, InBoth, Rekeys, loser_of, Loses, Accepted, Names, GaveUp, Succession, Tally, tally, rounds_since, WithoutResend, HoldsTwo, Law, front, Lawful, Goes_on}
+use Rattle.law.specs.Laws.{row_of, Quiet, Mirrored, MadeAt, InNeither, InBook, InBoth, Rekeys, loser_of, Loses, Accepted, Names, GaveUp, Succession, Tally, tally, rounds_since, WithoutResend, HoldsTwo, Law, front, Lawful, GoesOn}
 use Rattle.law.proofs.Calling.{call_of, answer_of, refusal_of, idle_of}
 use Rattle.law.proofs.Cells.{lines_lookup}
 use Rattle.law.proofs.Followed.{moves_of, answers_of, row_live, Ties, image, node_at, Followed, follow}
@@ -384,6 +384,6 @@ run_append meaning v u w (m ∷ ms) ns (r ∷ rs) ss h k = (h.0, h.1, run_append
 
 pub goes_on :
     {C : Type 0} (meaning : C → Meaning) → ((c : C) → Sound (meaning c)) → (u : World C) (ms : List (Move (List ℕ))) (rs : List Answer) (w : World C) →
-    Run meaning u ms rs w → Goes_on meaning u ms rs w
+    Run meaning u ms rs w → GoesOn meaning u ms rs w
 goes_on meaning sound u ms rs w h v before said k =
     lawful meaning sound v (before ++ ms) (said ++ rs) w (run_append meaning v u w before ms said rs k h)

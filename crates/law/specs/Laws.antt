@@ -191,7 +191,7 @@ KeepsLaw {C} meaning =
     (v : World C) (ms : List (Move (List ℕ))) (rs : List Answer) (w : World C) → Run meaning v ms rs w → Lawful meaning v ms rs w
 
 -- Calls that lead from u to w, after whatever was called before: all of it together is lawful.
-abbrev pub Goes_on : {C : Type 0} → (C → Meaning) → World C → List (Move (List ℕ)) → List Answer → World C → Type 0
-Goes_on {C} meaning u ms rs w =
+abbrev pub GoesOn : {C : Type 0} → (C → Meaning) → World C → List (Move (List ℕ)) → List Answer → World C → Type 0
+GoesOn {C} meaning u ms rs w =
     (v : World C) (before : List (Move (List ℕ))) (said : List Answer) → Run meaning v before said u →
     Lawful meaning v (before ++ ms) (said ++ rs) w
