@@ -46,7 +46,7 @@ pub record Held (K : Coding) (wide : ℕ) (s : Side) (m : Meaning) (x y v w : Op
   pub there : waits (m.waiting (other s)) (coded K s x) (coded K s y)
   pub here : waits (m.waiting s) (coded K (other s) v) (coded K (other s) w)
 
--- exactly the Unanswered requests and the unsettled replies wait
+-- exactly the unanswered requests and the unsettled replies wait
 abbrev pub Holding : Coding → ℕ → Side → Node → Node → Meaning → Type 0
 Holding K wide s P Q m = Held K wide s m (due P Q) (owed P Q) (due Q P) (owed Q P)
 

@@ -7,7 +7,7 @@ use Rattle.protocol.specs.Node.{Out, idle, asked, Node}
 use Rattle.line.specs.Calls.{Coding}
 use Rattle.line.specs.Line.{Sane}
 
--- the outstanding request opens the key k with the seed d, or Closes it
+-- the outstanding request opens the key k with the seed d, or closes it
 abbrev pub OutOpens : Out → ℕ → Seed → Type 0
 OutOpens idle k d = ⊥
 OutOpens (asked i a) k d = asks_open a k d

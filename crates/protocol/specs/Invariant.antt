@@ -349,7 +349,7 @@ IsGiven kept = ⊥
 IsGiven given_up = Unit {0}
 IsGiven (lost j) = Unit {0}
 
--- what an end's request Closes it has given up, and what it opens it has not
+-- what an end's request closes it has given up, and what it opens it has not
 abbrev pub AskGiven : (ℕ → Why) → Ask → Type 0
 AskGiven g (create o d) = g o ≡ kept
 AskGiven g (rekey o d c) = (g o ≡ kept) × IsGiven (g d.po)
