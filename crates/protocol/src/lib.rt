@@ -4,8 +4,6 @@
 ghost use Rattle.protocol.specs.Law.{EndsAgree};
 
 /// What two ends that started empty hold: at every moment, and whenever both are quiet.
-pub fn ends_agree() -> u8
+pub fn ends_agree()
     ensures { EndsAgree }
-{
-    0
-}
+{}
