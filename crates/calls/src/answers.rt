@@ -1,9 +1,11 @@
 //! What the calls of an end answer.
 ghost use Rattle.std.specs.Prelude.{◌≡◌};
-ghost use Rattle.calls.specs.Numbers.{delivered_number, answer_number};
+ghost use Rattle.numbered.specs.Apart.{apart_by};
+ghost use Rattle.calls.specs.Numbers.{delivered_number, delivered_of, delivered_told, answer_number};
 
 use crate::refusals::{AskRefusal, DeliverRefusal, ResendRefusal};
 use channel::sent::Sent;
+use numbered::Numbered;
 
 /// What a delivery did, and whether the channel took what it sent.
 #[derive(Clone, Copy)]
@@ -25,16 +27,17 @@ pub enum Answer {
     Heard(Result<Delivered, DeliverRefusal>),
 }
 
-impl Delivered {
-    /// The number of the answer.
-    pub fn number(self) -> u16
-        ensures { result ≡ delivered_number self }
-    {
+impl Numbered for Delivered {
+    ghost number_of = { delivered_number };
+
+    fn number(self) -> u16 {
         match self {
             Delivered::Done(sent) => sent.number(),
             Delivered::Again(sent) => 2 + sent.number(),
         }
     }
+
+    ghost apart = { apart_by delivered_number delivered_of delivered_told };
 }
 
 impl Answer {

@@ -1,7 +1,9 @@
 //! Why an end turns a call down, each with its number.
 ghost use Rattle.std.specs.Prelude.{◌≡◌};
-ghost use Rattle.calls.specs.Numbers.{making_number, ask_number, resend_number, deliver_number};
+ghost use Rattle.numbered.specs.Apart.{apart_by};
+ghost use Rattle.calls.specs.Numbers.{making_number, making_of, making_told, ask_number, ask_of, ask_told, resend_number, resend_of, resend_told, deliver_number, deliver_of, deliver_told};
 
+use numbered::Numbered;
 use wire::message::DecodeRefusal;
 
 /// Why two ends are not made.
@@ -56,38 +58,40 @@ pub enum DeliverRefusal {
     WrongId,
 }
 
-impl MakingRefusal {
-    /// The number of the check.
-    pub fn number(self) -> u16
-        ensures { result ≡ making_number self }
-    {
+impl Numbered for MakingRefusal {
+    ghost number_of = { making_number };
+
+    fn number(self) -> u16 {
         self as u16
     }
+
+    ghost apart = { apart_by making_number making_of making_told };
 }
 
-impl AskRefusal {
-    /// The number of the check.
-    pub fn number(self) -> u16
-        ensures { result ≡ ask_number self }
-    {
+impl Numbered for AskRefusal {
+    ghost number_of = { ask_number };
+
+    fn number(self) -> u16 {
         self as u16
     }
+
+    ghost apart = { apart_by ask_number ask_of ask_told };
 }
 
-impl ResendRefusal {
-    /// The number of the check.
-    pub fn number(self) -> u16
-        ensures { result ≡ resend_number self }
-    {
+impl Numbered for ResendRefusal {
+    ghost number_of = { resend_number };
+
+    fn number(self) -> u16 {
         self as u16
     }
+
+    ghost apart = { apart_by resend_number resend_of resend_told };
 }
 
-impl DeliverRefusal {
-    /// The number of the check.
-    pub fn number(self) -> u16
-        ensures { result ≡ deliver_number self }
-    {
+impl Numbered for DeliverRefusal {
+    ghost number_of = { deliver_number };
+
+    fn number(self) -> u16 {
         match self {
             DeliverRefusal::NonceLength => 30,
             DeliverRefusal::NothingCame => 31,
@@ -96,4 +100,6 @@ impl DeliverRefusal {
             DeliverRefusal::WrongId => 34,
         }
     }
+
+    ghost apart = { apart_by deliver_number deliver_of deliver_told };
 }

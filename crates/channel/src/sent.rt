@@ -1,6 +1,9 @@
 //! What a send answers.
 ghost use Rattle.std.specs.Prelude.{◌≡◌};
-ghost use Rattle.channel.specs.Numbers.{sent_number};
+ghost use Rattle.numbered.specs.Apart.{apart_by};
+ghost use Rattle.channel.specs.Numbers.{sent_number, sent_of, sent_told};
+
+use numbered::Numbered;
 
 /// Whether a channel took a datagram.
 #[derive(Clone, Copy, PartialEq, Eq, Debug)]
@@ -9,11 +12,12 @@ pub enum Sent {
     NotTaken = 1,
 }
 
-impl Sent {
-    /// The number of the answer.
-    pub fn number(self) -> u16
-        ensures { result ≡ sent_number self }
-    {
+impl Numbered for Sent {
+    ghost number_of = { sent_number };
+
+    fn number(self) -> u16 {
         self as u16
     }
+
+    ghost apart = { apart_by sent_number sent_of sent_told };
 }

@@ -27,5 +27,5 @@ long s i =
     + slice_index s (i + 6) * 256 + slice_index s (i + 7)
 
 -- x, where s has w octets from place i on
-abbrev pub within : List ℕ → ℕ → ℕ → ℕ → Option ℕ
+abbrev pub within : {X : Type 0} → List ℕ → ℕ → ℕ → X → Option X
 within s i w x = cond (nat_le (i + w) (length s)) (Some x) None

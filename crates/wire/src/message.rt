@@ -1,8 +1,10 @@
 //! What the messages about Child SAs say.
 ghost use Rattle.std.specs.Prelude.{◌≡◌};
-ghost use Rattle.wire.specs.Refusals.{decode_number, encode_number};
+ghost use Rattle.numbered.specs.Apart.{apart_by};
+ghost use Rattle.wire.specs.Refusals.{decode_number, decode_of, decode_told, encode_number, encode_of, encode_told};
 
 use nonce::side::Side;
+use numbered::Numbered;
 
 /// A message of one end to the other. `N` is how its nonce is held: as a part of the datagram
 /// that it came in, or in a place of its own.
@@ -84,20 +86,22 @@ pub enum EncodeRefusal {
     BufferTooShort = 45,
 }
 
-impl DecodeRefusal {
-    /// The number of the check.
-    pub fn number(self) -> u16
-        ensures { result ≡ decode_number self }
-    {
+impl Numbered for DecodeRefusal {
+    ghost number_of = { decode_number };
+
+    fn number(self) -> u16 {
         self as u16
     }
+
+    ghost apart = { apart_by decode_number decode_of decode_told };
 }
 
-impl EncodeRefusal {
-    /// The number of the check.
-    pub fn number(self) -> u16
-        ensures { result ≡ encode_number self }
-    {
+impl Numbered for EncodeRefusal {
+    ghost number_of = { encode_number };
+
+    fn number(self) -> u16 {
         self as u16
     }
+
+    ghost apart = { apart_by encode_number encode_of encode_told };
 }

@@ -1,6 +1,6 @@
 use Rattle.std.proofs.lemmas.Slice.Eq.{slice_eq-Decides, bytes_eq-Decides}
 use Rattle.std.proofs.lemmas.Bool.Decides.{same_from_decides, Decides-eqb}
-use Rattle.octets.proofs.equal.Goals as goal
+use Rattle.octets.proofs.same.Goals as goal
 
 pub returns : goal.returns
 returns c =
