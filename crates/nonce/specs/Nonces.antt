@@ -1,10 +1,5 @@
 -- Nonces and their lengths.
-use Rattle.std.specs.Prelude.{ℕ, Bool, cond, ◌&&◌, List, length, take, Some, None, Option, nat_le}
-use Rattle.nonce.specs.declared.Nonce.{Nonce}
-
--- the octets of a nonce
-abbrev pub nonce_octets : Nonce → List ℕ
-nonce_octets n = take n.len n.octets
+use Rattle.std.specs.Prelude.{ℕ, Bool, cond, ◌&&◌, List, length, Some, None, Option, nat_le}
 
 -- whether octets have the length of a nonce: 16 to 32
 abbrev pub nonce_long : List ℕ → Bool

@@ -1,6 +1,5 @@
 -- The order of nonces, and the loser of a collision.
 use Rattle.std.specs.Prelude.{◌≡◌, ℕ, Bool, true, false, cond, ◌⊎◌, List, [], ◌∷◌, ◌==◌, nat_lt}
-use Rattle.nonce.specs.Nonces.{nonce_octets}
 use Rattle.nonce.specs.declared.order.Exchanged.{Exchanged}
 use Rattle.nonce.specs.declared.order.Lowest.{Lowest}
 use Rattle.nonce.specs.declared.order.Lowest.TheVariants.{InitiatorOfA, ResponderOfA, InitiatorOfB, ResponderOfB}
@@ -41,8 +40,8 @@ named n = (n.name, n.octets.now)
 -- which of the nonces of two exchanges is the lowest
 abbrev pub lowest_in : Exchanged → Exchanged → Lowest
 lowest_in a b =
-    lowest_of (nonce_octets a.initiator) (nonce_octets a.responder) (nonce_octets b.initiator)
-    (nonce_octets b.responder)
+    lowest_of a.initiator a.responder b.initiator
+    b.responder
 
 abbrev pub loser_in : Exchanged → Exchanged → Side
 loser_in a b = loser_by (lowest_in a b)
@@ -61,5 +60,5 @@ Loses B ia ra ib rb =
 
 abbrev pub LosesIn : Side → Exchanged → Exchanged → Type 0
 LosesIn s a b =
-    Loses s (nonce_octets a.initiator) (nonce_octets a.responder) (nonce_octets b.initiator)
-    (nonce_octets b.responder)
+    Loses s a.initiator a.responder b.initiator
+    b.responder

@@ -1,18 +1,31 @@
 //! Nonces: 16 to 32 octets, their order, and which of two colliding SAs loses.
 #![tactic(auto)]
 
-ghost use Rattle.std.specs.Prelude.{◌≡◌, ◌-◌, ◌≤◌, drop, replicate};
+use std::marker::Model;
 
 pub mod methods;
 pub mod order;
 pub mod side;
 
-/// A nonce of 16 to 32 octets. The octets behind its length are zero.
+/// A nonce of 16 to 32 octets, as which clauses see it. The octets behind its length are zero.
 #[derive(Clone, Copy)]
 pub struct Nonce {
     octets: [u8; 32],
     len: usize,
-    ghost least: { 16 ≤ len },
-    ghost most: { len ≤ 32 },
-    ghost padded: { drop len octets ≡ replicate (32 - len) 0 },
+}
+
+impl Model for Nonce {
+    ghost use Rattle.std.specs.Prelude.{ℕ, ◌-◌, List, ◌++◌, length, take, replicate};
+
+    ghost Value = { List ℕ };
+
+    ghost use Rattle.nonce.specs.Kept.{IsKept, fields_back};
+
+    ghost view = { λ n. take n.len n.octets };
+
+    ghost invariant = { IsKept };
+
+    ghost inverse = { λ s. record { octets = s ++ replicate (32 - length s) 0; len = length s } };
+
+    ghost inverse_ok = { fields_back };
 }

@@ -1,14 +1,13 @@
 //! How a nonce is made from octets, and read back.
 ghost use Rattle.std.specs.Prelude.{◌≡◌, ◌≤◌, length};
-ghost use Rattle.std.specs.Option.{option_map};
-ghost use Rattle.nonce.specs.Nonces.{nonce_octets, as_nonce};
+ghost use Rattle.nonce.specs.Nonces.{as_nonce};
 
 use crate::Nonce;
 
 impl Nonce {
     /// The nonce of these octets, or nothing where they are not 16 to 32.
     pub fn new(octets: &[u8]) -> Option<Nonce>
-        ensures { option_map nonce_octets result ≡ as_nonce octets.now }
+        ensures { result ≡ as_nonce octets.now }
     {
         let len = octets.len();
         if len < 16 || len > 32 {
@@ -21,7 +20,7 @@ impl Nonce {
 
     /// The octets of the nonce.
     pub fn as_slice(&self) -> &[u8]
-        ensures value { result.now ≡ nonce_octets self.now }
+        ensures value { result.now ≡ self.now }
         ensures least { 16 ≤ length result.now }
         ensures most { length result.now ≤ 32 }
     {

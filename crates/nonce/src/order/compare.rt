@@ -1,6 +1,5 @@
 //! How nonces are compared.
 ghost use Rattle.std.specs.Prelude.{◌≡◌};
-ghost use Rattle.nonce.specs.Nonces.{nonce_octets};
 ghost use Rattle.nonce.specs.Order.{lower_than, lower_of, named, lower_named, lowest_in, loser_by, loser_in, LosesIn};
 
 use crate::Nonce;
@@ -16,7 +15,7 @@ fn precedes(a: &[u8], b: &[u8]) -> bool
 
 /// The octets of the lower of two nonces; of equal ones, of the first.
 pub fn lower<'a>(a: &'a Nonce, b: &'a Nonce) -> &'a [u8]
-    ensures { result.now ≡ lower_of (nonce_octets a.now) (nonce_octets b.now) }
+    ensures { result.now ≡ lower_of a.now b.now }
 {
     let first = a.as_slice();
     let second = b.as_slice();

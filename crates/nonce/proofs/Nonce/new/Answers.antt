@@ -1,13 +1,14 @@
 use Rattle.std.proofs.Common.{◌≡◌, ◌≤◌, true, length, refl, arith}
 use Rattle.std.proofs.lemmas.Bool.{le-leb, and_from}
 use Rattle.nonce.specs.Nonces.{nonce_long}
-use Rattle.nonce.proofs.Padded.{zeros_behind, octets_in_front}
+use Rattle.nonce.proofs.Padded.{zeros_behind, long_kept, octets_in_front}
 use Rattle.nonce.proofs.Nonce.new.Goals as goal
 
 pub invariant_of-result : goal.invariant_of-result
 invariant_of-result c = record {
   least = omega arith;
   most = omega arith;
+  long = long_kept _ c.copy_from_slice.new.self c.args.octets.now c.copy_from_slice.ensures.after refl (omega arith);
   padded = zeros_behind _ c.copy_from_slice.new.self c.args.octets.now c.copy_from_slice.ensures.after refl;
 }
 
