@@ -1,10 +1,9 @@
 //! How a message is written as octets.
 ghost use Rattle.std.specs.Prelude.{◌≡◌, ◌+◌, ◌≤◌, cond, ◌++◌, length};
-ghost use Rattle.nonce.specs.Nonces.{nonce_octets};
 ghost use Rattle.wire.specs.Encoding.{written, overwritten};
 ghost use Rattle.wire.specs.Exact.{ValidOffer, ValidRequest, ValidFailure, ValidResponse, ValidBody, Valid};
 ghost use Rattle.wire.specs.Texts.{octets_in};
-ghost use Rattle.wire.specs.Messages.{plain_body, plain, plain_request, plain_response, offer_parts, request_parts, response_parts, parts_of, chain, request_kinds, response_kinds, kinds, sender_flag, octets_of};
+ghost use Rattle.wire.specs.Messages.{offer_parts, request_parts, response_parts, parts_of, chain, request_kinds, response_kinds, kinds, sender_flag, octets_of};
 
 use crate::message::{Body, EncodeRefusal, Failure, Message, Request, Response};
 use crate::table::{bare_body, delete_body, not_found_body, rekey_body, sa_body, ts_body};
@@ -15,9 +14,9 @@ use nonce::side::Side;
 /// Adds the payloads of an offer: SA, Nonce, TSi and TSr.
 fn push_offer(text: &mut Text, spi: u32, nonce: &Nonce)
     requires { text.old.len ≤ 12 }
-    ensures octets { octets_in text.new ≡ octets_in text.old ++ chain (offer_parts spi (nonce_octets nonce.now)) }
+    ensures octets { octets_in text.new ≡ octets_in text.old ++ chain (offer_parts spi nonce.now) }
     ensures len { text.new.len ≤ 132 }
-    ensures valid { ValidOffer spi (nonce_octets nonce.now) }
+    ensures valid { ValidOffer spi nonce.now }
 {
     text.push_payload(40, &sa_body(spi));
     text.push_payload(44, nonce.as_slice());
@@ -27,9 +26,9 @@ fn push_offer(text: &mut Text, spi: u32, nonce: &Nonce)
 
 /// The payloads of a request.
 fn request_chain(request: &Request<Nonce>) -> Text
-    ensures octets { octets_in result ≡ chain (request_parts (plain_request nonce_octets request.now)) }
+    ensures octets { octets_in result ≡ chain (request_parts request.now) }
     ensures len { result.len ≤ 132 }
-    ensures valid { ValidRequest (plain_request nonce_octets request.now) }
+    ensures valid { ValidRequest request.now }
 {
     let mut text = Text::new();
     match request {
@@ -61,9 +60,9 @@ fn push_failure(text: &mut Text, failure: Failure)
 
 /// The payloads of a response.
 fn response_chain(response: &Response<Nonce>) -> Text
-    ensures octets { octets_in result ≡ chain (response_parts (plain_response nonce_octets response.now)) }
+    ensures octets { octets_in result ≡ chain (response_parts response.now) }
     ensures len { result.len ≤ 132 }
-    ensures valid { ValidResponse (plain_response nonce_octets response.now) }
+    ensures valid { ValidResponse response.now }
 {
     let mut text = Text::new();
     match response {
@@ -77,9 +76,9 @@ fn response_chain(response: &Response<Nonce>) -> Text
 
 /// The payloads of a message.
 fn chain_of(body: &Body<Nonce>) -> Text
-    ensures octets { octets_in result ≡ chain (parts_of (plain_body nonce_octets body.now)) }
+    ensures octets { octets_in result ≡ chain (parts_of body.now) }
     ensures len { result.len ≤ 132 }
-    ensures valid { ValidBody (plain_body nonce_octets body.now) }
+    ensures valid { ValidBody body.now }
 {
     match body {
         Body::Request(request) => request_chain(request),
@@ -89,7 +88,7 @@ fn chain_of(body: &Body<Nonce>) -> Text
 
 /// The type of the first payload of a request, and the exchange type.
 fn request_kinds(request: &Request<Nonce>) -> (u8, u8)
-    ensures { result ≡ request_kinds (plain_request nonce_octets request.now) }
+    ensures { result ≡ request_kinds request.now }
 {
     match request {
         Request::Create { .. } => (33, 36),
@@ -101,7 +100,7 @@ fn request_kinds(request: &Request<Nonce>) -> (u8, u8)
 
 /// The type of the first payload of a response, and the exchange type.
 fn response_kinds(response: &Response<Nonce>) -> (u8, u8)
-    ensures { result ≡ response_kinds (plain_response nonce_octets response.now) }
+    ensures { result ≡ response_kinds response.now }
 {
     match response {
         Response::NewSa { .. } => (33, 36),
@@ -113,7 +112,7 @@ fn response_kinds(response: &Response<Nonce>) -> (u8, u8)
 
 /// The four octets of the header from the type of the first payload to the flags.
 fn kinds_of(sender: Side, body: &Body<Nonce>) -> [u8; 4]
-    ensures { result ≡ kinds sender (plain_body nonce_octets body.now) }
+    ensures { result ≡ kinds sender body.now }
 {
     let sent = sender_flag(sender);
     match body {
@@ -140,8 +139,8 @@ fn sender_flag(sender: Side) -> u8
 
 /// The octets of a message.
 fn text_of(message: &Message<Nonce>) -> Text
-    ensures octets { octets_in result ≡ octets_of (plain nonce_octets message.now) }
-    ensures valid { Valid (plain nonce_octets message.now) }
+    ensures octets { octets_in result ≡ octets_of message.now }
+    ensures valid { Valid message.now }
 {
     let payloads = chain_of(&message.body);
     let mut text = Text::new();
@@ -158,9 +157,9 @@ impl Message<Nonce> {
     /// Writes the message to the front of a buffer and says how many octets it has, or refuses where the buffer is too
     /// short for it. Octets behind it, and the whole buffer at a refusal, stay as they were.
     pub fn encode(&self, out: &mut [u8]) -> Result<usize, EncodeRefusal>
-        ensures answer { result ≡ written (plain nonce_octets self.now) out.old }
-        ensures buffer { out.new ≡ overwritten (plain nonce_octets self.now) out.old }
-        ensures valid { Valid (plain nonce_octets self.now) }
+        ensures answer { result ≡ written self.now out.old }
+        ensures buffer { out.new ≡ overwritten self.now out.old }
+        ensures valid { Valid self.now }
     {
         let text = text_of(self);
         let octets = text.as_slice();

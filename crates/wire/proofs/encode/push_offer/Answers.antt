@@ -1,6 +1,5 @@
 use Rattle.std.proofs.Common.{[], ◌∷◌, arith}
 use Rattle.wire.specs.Messages.{part}
-use Rattle.nonce.specs.Nonces.{nonce_octets}
 use Rattle.wire.specs.Payloads.{sa_body, ts_body}
 use Rattle.wire.specs.Texts.{octets_in}
 use Rattle.wire.proofs.Pushes.{payload_pushed, last_pushed}
@@ -22,7 +21,7 @@ returns c =
     let v = octets_in c.push_payload-2.new.self in
     let w = octets_in c.push_payload-3.new.self in
     let x = octets_in c.push_payload-4.new.self in
-    let n = nonce_octets c.args.nonce.now in
+    let n = c.args.nonce.now in
     let sa = part 33 (sa_body c.args.spi) in
     let tsi = part 44 ts_body in
     let tsr = part 45 ts_body in

@@ -1,12 +1,11 @@
 use Rattle.std.proofs.Common.{◌<◌, ◌≤◌, length, ◌∙◌, arith}
 use Rattle.wire.specs.Messages.{plain}
-use Rattle.nonce.specs.Nonces.{nonce_octets}
 use Rattle.wire.proofs.Writings.{refused_answer, refused_buffer, written_answer, written_buffer}
 use Rattle.wire.proofs.encode.Message+Nonce.encode.Goals as goal
 
 pub returns-then-out-len : goal.returns-then-out-len
 returns-then-out-len c =
-    let m = plain nonce_octets c.args.self.now in
+    let m = c.args.self.now in
     let out = c.args.out.now in
     let s = c.as_slice-octets.result.now in
     let e = c.as_slice-octets.ensures ∙ c.text_of-text.ensures.octets in
@@ -15,7 +14,7 @@ returns-then-out-len c =
 
 pub returns : goal.returns
 returns c =
-    let m = plain nonce_octets c.args.self.now in
+    let m = c.args.self.now in
     let out = c.args.out.now in
     let s = c.as_slice-octets.result.now in
     let e = c.as_slice-octets.ensures ∙ c.text_of-text.ensures.octets in
