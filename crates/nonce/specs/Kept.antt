@@ -1,5 +1,5 @@
 -- How a nonce is kept.
-use Rattle.std.specs.Prelude.{◌≡◌, ℕ, ◌-◌, ◌≤◌, List, ◌++◌, length, take, drop, replicate}
+use Rattle.std.specs.Prelude.{◌≡◌, ◌-◌, ◌≤◌, ◌++◌, length, take, drop, replicate}
 use Rattle.std.proofs.Common.{arith, take-append-drop, length-take-le}
 use Rattle.nonce.specs.declared.Nonce.TheInside.{Inside}
 
@@ -15,6 +15,6 @@ pub fields_back : (n : Inside) → IsKept n
 fields_back n h =
     let l : length (take n.len n.octets) ≡ n.len = length-take-le n.len n.octets (omega (arith, h.most, h.long)) in
     let o : take n.len n.octets ++ replicate (32 - length (take n.len n.octets)) 0 ≡ n.octets =
-        rw (l, ← h.padded) (take-append-drop n.len n.octets)
+    rw (l, ← h.padded) (take-append-drop n.len n.octets)
     in
     λ i. record { octets = o i; len = l i }
