@@ -1,12 +1,11 @@
 -- Each worked line, computed.
-use Rattle.std.proofs.Common.{◌≡◌, ℕ, suc, true, false, not, List, Some, None, refl, arith}
+use Rattle.std.proofs.Common.{◌≡◌, ℕ, suc, true, false, not, List, [], ◌∷◌, ◌++◌, map, Some, None, refl, arith}
 use Rattle.std.proofs.lemmas.Bool.Decides.{nat_tests}
 use Rattle.book.specs.declared.row.Row.{Row}
-use Rattle.wire.specs.Payloads.{sa_body, ts_body, delete_body, carried, sa_in}
-use Rattle.wire.specs.Decoding.{header_in, opened, offer_in, request_in, decoded}
+use Rattle.wire.specs.Lines as messages
 use Rattle.law.specs.Ends.{End, is_spent}
 use Rattle.law.specs.Asks.{rekey_asked, delete_asked}
-use Rattle.law.specs.Lines.{lines, AllHold, Stands, ask_refusal}
+use Rattle.law.specs.Lines.{Line, of_messages, lines, AllHold, Stands, ask_refusal}
 
 -- the last ID is left for one request, and a rekey may need two
 last_spent : (n : ℕ) → n ≡ 4294967295 → not (is_spent (suc n)) ≡ false
@@ -23,7 +22,11 @@ delete_goes : (e : End) (own : ℕ) (r : Row) (n : List ℕ) → Stands 42949672
 unfolding delete_asked
 delete_goes e own r n h = rw (h.quiet, last_left e.next h.id, h.row, h.state)
 
-pub all_hold : AllHold lines
-unfolding sa_body ts_body delete_body carried sa_in header_in opened offer_in request_in decoded
-all_hold =
-    (refl, (refl, ((refl, refl), (refl, ((λ i r. refl), ((λ i r. refl), ((λ i r. refl), ((λ e own r n h. (rekey_stops e own r n h, delete_goes e own r n h)), tt))))))))
+-- lines of the messages hold as lines, with others behind them
+with_messages : (ls : List messages.Line) (rest : List Line) → messages.AllHold ls → AllHold rest → AllHold (map of_messages ls ++ rest)
+with_messages [] rest h k = k
+with_messages (l ∷ ls) rest h k = (h.0, with_messages ls rest h.1 k)
+
+pub all_hold : messages.AllHold messages.lines → AllHold lines
+all_hold h =
+    with_messages messages.lines _ h ((λ e own r n s. (rekey_stops e own r n s, delete_goes e own r n s)), tt)

@@ -3,4 +3,4 @@ use Rattle.law.proofs.Worked.{all_hold}
 use Rattle.law.proofs.lines.worked_lines.Goals as goal
 
 pub returns : goal.returns
-returns c = record { count = refl; hold = all_hold }
+returns c = record { count = ?; hold = all_hold c.worked_lines.ensures.hold }
