@@ -1,7 +1,6 @@
 -- The number of each answer.
 use Rattle.std.specs.Prelude.{◌≡◌, ℕ, ◌+◌, cond, Option, Some, None, Ok, Err, ◌==◌, refl}
 use Rattle.std.specs.Option.{option_map}
-use Rattle.channel.specs.declared.sent.Sent.{Sent}
 use Rattle.channel.specs.declared.sent.Sent.TheVariants.{Taken, NotTaken}
 use Rattle.channel.specs.Numbers.{sent_number}
 use Rattle.calls.specs.declared.answers.Delivered.{Delivered}

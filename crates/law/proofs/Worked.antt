@@ -1,11 +1,11 @@
 -- Each worked line, computed.
-use Rattle.std.proofs.Common.{◌≡◌, ℕ, suc, true, false, not, List, [], ◌∷◌, ◌++◌, map, Some, None, refl, arith}
+use Rattle.std.proofs.Common.{◌≡◌, ℕ, suc, true, false, not, List, [], ◌∷◌, ◌++◌, map, Some, None, arith}
 use Rattle.std.proofs.lemmas.Bool.Decides.{nat_tests}
 use Rattle.book.specs.declared.row.Row.{Row}
 use Rattle.wire.specs.Lines as messages
 use Rattle.law.specs.Ends.{End, is_spent}
 use Rattle.law.specs.Asks.{rekey_asked, delete_asked}
-use Rattle.law.specs.Lines.{Line, of_messages, lines, AllHold, Stands, ask_refusal}
+use Rattle.law.specs.Lines.{Line, of_messages, rekey_refused, lines, AllHold, Stands, ask_refusal}
 
 -- the last ID is left for one request, and a rekey may need two
 last_spent : (n : ℕ) → n ≡ 4294967295 → not (is_spent (suc n)) ≡ false
@@ -29,4 +29,7 @@ with_messages (l ∷ ls) rest h k = (h.0, with_messages ls rest h.1 k)
 
 pub all_hold : messages.AllHold messages.lines → AllHold lines
 all_hold h =
-    with_messages messages.lines _ h ((λ e own r n s. (rekey_stops e own r n s, delete_goes e own r n s)), tt)
+    let last : AllHold (rekey_refused 4294967295 22 ∷ []) =
+    ((λ e own r n s. (rekey_stops e own r n s, delete_goes e own r n s)), tt)
+    in
+    with_messages messages.lines (rekey_refused 4294967295 22 ∷ []) h last
