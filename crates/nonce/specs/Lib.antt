@@ -1,3 +1,4 @@
 pub mod Kept
 pub mod Nonces
 pub mod Order
+pub mod Names
