@@ -1,7 +1,6 @@
 //! A row: what one end files of a Child SA.
 ghost use Rattle.std.specs.Prelude.{◌≡◌};
-ghost use Rattle.std.specs.Option.{option_map};
-ghost use Rattle.nonce.specs.Nonces.{as_nonce, nonce_octets};
+ghost use Rattle.nonce.specs.Nonces.{as_nonce};
 ghost use Rattle.book.specs.Rows.{state_number, beginner_number, is_opening, kept, kept_octets, nr_octets, exchanged, mirrors};
 
 use nonce::Nonce;
@@ -98,7 +97,7 @@ impl KeptNonce {
 
     /// The octets of a nonce.
     pub fn of(nonce: &Nonce) -> KeptNonce
-        ensures { result ≡ kept (nonce_octets nonce.now) }
+        ensures { result ≡ kept nonce.now }
     {
         let from = nonce.as_slice();
         let len = from.len();
@@ -109,7 +108,7 @@ impl KeptNonce {
 
     /// The nonce, or nothing where the octets are not 16 to 32.
     pub fn nonce(&self) -> Option<Nonce>
-        ensures { option_map nonce_octets result ≡ as_nonce (kept_octets self.now) }
+        ensures { result ≡ as_nonce (kept_octets self.now) }
     {
         Nonce::new(self.as_slice())
     }

@@ -7,6 +7,7 @@ use channel::channel::Channel;
 use channel::marker::Marker;
 use channel::sent::Sent;
 use nonce::side::Side;
+use numbered::Numbered;
 use std::test::Fail;
 
 /// The datagram that comes to an end: its length and its last octet.

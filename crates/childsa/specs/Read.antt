@@ -1,9 +1,7 @@
 -- What the words of a script stand for.
-use Rattle.std.specs.Prelude.{ℕ, Bool, true, cond, ◌&&◌, List, [], ◌∷◌, length, replicate, Some, None, codes, Option, ◌==◌}
+use Rattle.std.specs.Prelude.{ℕ, Bool, true, cond, ◌&&◌, List, [], ◌∷◌, length, replicate, Some, None, Option, ◌==◌}
 use Rattle.std.specs.Char.{is_ascii_digit}
 use Rattle.octets.specs.Numbers.{long}
-use Rattle.nonce.specs.declared.side.Side.{Side}
-use Rattle.nonce.specs.declared.side.Side.TheVariants.{A, B}
 
 -- whether a text is made of decimal digits
 abbrev pub decimal : List ℕ → Bool
@@ -19,8 +17,3 @@ spread (x ∷ y ∷ rest) = x ∷ y ∷ rest
 -- the number that eight octets are
 abbrev pub ike_spi : List ℕ → Option ℕ
 ike_spi s = cond (length s == 8) (Some (long s 0)) None
-
--- the name of an end
-abbrev pub side_text : Side → List ℕ
-side_text A = codes "A"
-side_text B = codes "B"

@@ -16,6 +16,7 @@ use bottoms::trace::Trace;
 use channel::channel::Channel;
 use channel::sent::Sent;
 use nonce::side::Side;
+use numbered::Numbered;
 use std::alloc::{AllocError, Global};
 
 /// The kind of a bottom.

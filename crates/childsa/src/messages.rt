@@ -1,16 +1,16 @@
 //! The commands on messages and nonces.
 ghost use Rattle.std.specs.Prelude.{◌≡◌, IfOk, string_bytes};
-ghost use Rattle.wire.specs.Messages.{plain, octets_of};
-ghost use Rattle.nonce.specs.Nonces.{nonce_octets};
+ghost use Rattle.wire.specs.Messages.{octets_of};
 ghost use Rattle.nonce.specs.Order.{lower_of, loser_in};
 ghost use Rattle.childsa.specs.Hex.{hex_text};
-ghost use Rattle.childsa.specs.Read.{side_text};
+ghost use Rattle.nonce.specs.Names.{side_text};
 
 use crate::hex::to_hex;
 use crate::words::{Words, side_name};
 use crate::wrong::{Stop, Wrong};
 use nonce::Nonce;
 use nonce::order::{Exchanged, compare};
+use numbered::Numbered;
 use std::alloc::{AllocError, Global};
 use wire::message::{Body, Failure, Message, Request, Response};
 
@@ -65,7 +65,7 @@ fn read_exchanged(words: &mut Words<'_>) -> Result<Exchanged, Stop> {
 
 /// The octets of a message as text.
 fn octets_text(heap: Global, message: &Message<Nonce>) -> Result<String, Stop>
-    ensures { IfOk result (λ s. string_bytes s ≡ hex_text (octets_of (plain nonce_octets message.now))) }
+    ensures { IfOk result (λ s. string_bytes s ≡ hex_text (octets_of message.now)) }
 {
     let mut buffer = [0u8; LONGEST];
     match message.encode(&mut buffer) {
@@ -76,7 +76,7 @@ fn octets_text(heap: Global, message: &Message<Nonce>) -> Result<String, Stop>
 
 /// The lower of two nonces as text.
 fn lower_text(heap: Global, first: &Nonce, second: &Nonce) -> Result<String, AllocError>
-    ensures { IfOk result (λ s. string_bytes s ≡ hex_text (lower_of (nonce_octets first.now) (nonce_octets second.now))) }
+    ensures { IfOk result (λ s. string_bytes s ≡ hex_text (lower_of first.now second.now)) }
 {
     to_hex(heap, compare::lower(first, second))
 }

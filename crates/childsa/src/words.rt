@@ -1,9 +1,9 @@
 //! The words of a line, and what they stand for.
 ghost use Rattle.std.specs.Prelude.{◌≡◌, ◌++◌, IfOk, Some, string_bytes, codes};
-ghost use Rattle.std.specs.Option.{option_map};
-ghost use Rattle.nonce.specs.Nonces.{nonce_octets, as_nonce};
+ghost use Rattle.nonce.specs.Nonces.{as_nonce};
+ghost use Rattle.nonce.specs.Names.{side_text};
 ghost use Rattle.childsa.specs.Hex.{from_hex};
-ghost use Rattle.childsa.specs.Read.{decimal, spread, ike_spi, side_text};
+ghost use Rattle.childsa.specs.Read.{decimal, spread, ike_spi};
 
 use crate::hex::from_hex;
 use crate::wrong::{Stop, Wrong};
@@ -193,7 +193,7 @@ fn ike_spi_of(octets: &[u8]) -> Option<u64>
 
 /// The nonce that octets stand for: one alone stands for sixteen of it.
 fn nonce_of(octets: &[u8]) -> Option<Nonce>
-    ensures { option_map nonce_octets result ≡ as_nonce (spread octets.now) }
+    ensures { result ≡ as_nonce (spread octets.now) }
 {
     match octets {
         [x] => Nonce::new(&[*x; 16]),

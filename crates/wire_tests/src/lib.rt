@@ -7,6 +7,7 @@ mod tests {
     use nonce::order::Exchanged;
     use nonce::order::compare::{loser, lower};
     use nonce::side::Side;
+    use numbered::Numbered;
     use std::test::Fail;
     use wire::decode::decode;
     use wire::message::{Body, Message, Request};
