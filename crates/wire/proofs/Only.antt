@@ -9,8 +9,8 @@ use Rattle.octets.specs.Numbers.{be16, be32, be64, half, word, long}
 use Rattle.octets.proofs.Words.{be16_half, be32_word, be64_long}
 use Rattle.nonce.specs.Nonces.{nonce_long}
 use Rattle.wire.specs.Payloads.{sa_body, ts_body, rekey_body, failure_body, delete_body, carried, sa_in, rekeyed_in, deleted_in, not_found_in, failure_in}
-use Rattle.wire.specs.Messages.{Part, part, offer_parts, request_parts, response_parts, parts_of, first_type, chain, request_exchange, response_exchange, exchange_of, sender_flag, response_flag, octets_of}
-use Rattle.wire.specs.Decoding.{sized, exchange_in, flags_in, header_from, header_in, opens, opened, Opened, taken, before, followed, bodies, offer_order, rekey_order, sa_then, offer_in, as_create, as_rekey, as_new, as_failed, rekey_from, create_or, failed_from, new_or, as_deleted, deleted_from, empty_or, informs_request, informs_response, asks, answers, request_in, response_in, informational_in, body_in, with_body, with_header, decoded}
+use Rattle.wire.specs.Messages.{Part, part, offer_parts, request_parts, response_parts, parts_of, first_type, chain, request_exchange, response_exchange, exchange_of, exchange_number, sender_flag, direction_flag, flags_octet, response_flag, octets_of}
+use Rattle.wire.specs.Decoding.{sized, exchange_in, flags, flags_in, header_from, header_in, opens, opened, Opened, taken, before, followed, bodies, offer_order, rekey_order, sa_then, offer_in, as_create, as_rekey, as_new, as_failed, rekey_from, create_or, failed_from, new_or, as_deleted, deleted_from, empty_or, informs_request, informs_response, asks, answers, request_in, response_in, informational_in, body_in, with_body, with_header, decoded}
 use Rattle.wire.specs.Exact.{Octets, Valid, ValidOffer, ValidRequest, ValidFailure, ValidResponse, ValidBody}
 use Rattle.wire.proofs.Carried.{same_equal}
 use Rattle.wire.specs.declared.message.Message.{Message}
@@ -27,6 +27,7 @@ use Rattle.wire.specs.declared.message.DecodeRefusal.TheVariants as refusal
 use Rattle.wire.specs.declared.header.Header.{Header}
 use Rattle.wire.specs.declared.header.Exchange.{Exchange}
 use Rattle.wire.specs.declared.header.Exchange.TheVariants.{CreateChildSa, Informational}
+use Rattle.wire.specs.declared.header.Flags.{Flags}
 use Rattle.wire.specs.declared.header.Direction.{Direction}
 use Rattle.wire.specs.declared.header.Direction.TheVariants.{Asking, Answering}
 use Rattle.nonce.specs.declared.side.Side.{Side}
@@ -423,14 +424,6 @@ unfolding informational_in
 informational_only k s r o e = empty_or_only k s r (bodies [] k s) o refl e
 
 -- the body of a message
-abbrev exchange_number : Exchange → ℕ
-exchange_number CreateChildSa = 36
-exchange_number Informational = 37
-
-abbrev direction_flag : Direction → ℕ
-direction_flag Asking = 0x00
-direction_flag Answering = 0x20
-
 abbrev Read : Exchange → Direction → ℕ → List ℕ → Body (List ℕ) → Type 0
 Read x d k s b =
     Reads k s (parts_of b) × ValidBody b × (exchange_of b ≡ exchange_number x) × (response_flag b ≡ direction_flag d)
@@ -492,20 +485,20 @@ exchange_only : (n : ℕ) (x : Exchange) → exchange_in n ≡ Some x → n ≡ 
 exchange_only n CreateChildSa e = grind (arith, nat_tests)
 exchange_only n Informational e = grind (arith, nat_tests)
 
-flags_only : (n : ℕ) (f : Side × Direction) → flags_in n ≡ Some f → n ≡ sender_flag f.0 + direction_flag f.1
-flags_only n (A, Asking) e = grind (arith, nat_tests)
-flags_only n (B, Asking) e = grind (arith, nat_tests)
-flags_only n (A, Answering) e = grind (arith, nat_tests)
-flags_only n (B, Answering) e = grind (arith, nat_tests)
+flags_only : (n : ℕ) (s : Side) (d : Direction) → flags_in n ≡ Some (flags s d) → n ≡ sender_flag s + direction_flag d
+flags_only n A Asking e = grind (arith, nat_tests)
+flags_only n B Asking e = grind (arith, nat_tests)
+flags_only n A Answering e = grind (arith, nat_tests)
+flags_only n B Answering e = grind (arith, nat_tests)
 
 abbrev Headed : List ℕ → Header → Type 0
 Headed s h =
     (get_or s 17 0 ≡ 0x20) × (get_or s 18 0 ≡ exchange_number h.exchange)
-    × (get_or s 19 0 ≡ sender_flag h.sender + direction_flag h.direction) × (h.initiator ≡ long s 0)
+    × (get_or s 19 0 ≡ flags_octet h.flags) × (h.initiator ≡ long s 0)
     × (h.responder ≡ long s 8) × (h.next ≡ get_or s 16 0) × (h.id ≡ word s 20)
 
 header_from_only :
-    (s : List ℕ) (h : Header) (x : Option Exchange) (f : Option (Side × Direction)) → get_or s 17 0 ≡ 0x20 →
+    (s : List ℕ) (h : Header) (x : Option Exchange) (f : Option Flags) → get_or s 17 0 ≡ 0x20 →
     exchange_in (get_or s 18 0) ≡ x → flags_in (get_or s 19 0) ≡ f → header_from s x f ≡ Some h → Headed s h
 header_from_only s h (Some x) (Some f) v g j e =
     let given : Header = record {
@@ -513,13 +506,12 @@ header_from_only s h (Some x) (Some f) v g j e =
       responder = long s 8;
       next = get_or s 16 0;
       exchange = x;
-      sender = f.0;
-      direction = f.1;
+      flags = f;
       id = word s 20;
     } in
     let z : given ≡ h = cc in
     subst (λ y. Headed s y) z
-    (v, exchange_only (get_or s 18 0) x g, flags_only (get_or s 19 0) f j, refl, refl, refl, refl)
+    (v, exchange_only (get_or s 18 0) x g, flags_only (get_or s 19 0) f.sender f.direction j, refl, refl, refl, refl)
 header_from_only s h (Some x) None v g j e = let z : ◌≡◌ {A = ℕ} 0 1 = cc in absurd (omega arith)
 header_from_only s h None f v g j e = let z : ◌≡◌ {A = ℕ} 0 1 = cc in absurd (omega arith)
 
@@ -600,21 +592,21 @@ parts_joined m s rest i r n v x f w l e a b c d g h j k p = rw (a, b, c, g, h, j
 
 with_body_only :
     (s : List ℕ) (h : Header) (m : Message (List ℕ)) (q : Result (Body (List ℕ)) DecodeRefusal) → Octets s →
-    28 ≤ length s → word s 24 ≡ length s → Headed s h → body_in h.exchange h.direction h.next (drop 28 s) ≡ q →
+    28 ≤ length s → word s 24 ≡ length s → Headed s h → body_in h.exchange h.flags.direction h.next (drop 28 s) ≡ q →
     with_body h q ≡ Ok m → (octets_of m ≡ s) × Valid m
 with_body_only s h m (Ok b) o l w (v, x, f, i, r, n, d) g e =
-    let p = body_only h.exchange h.direction h.next (drop 28 s) b (octets_drop 28 s o) g in
+    let p = body_only h.exchange h.flags.direction h.next (drop 28 s) b (octets_drop 28 s o) g in
     let given : Message (List ℕ) = record {
       initiator = h.initiator;
       responder = h.responder;
-      sender = h.sender;
+      sender = h.flags.sender;
       id = h.id;
       body = b;
     } in
     let z : given ≡ m = cc in
     let c = p.0.0 in
     let k : 28 + length (chain (parts_of b)) ≡ word s 24 = omega (arith, ap length c, length-drop 28 s) in
-    let fl : sender_flag h.sender + response_flag b ≡ get_or s 19 0 = rw p.3 (sym f) in
+    let fl : sender_flag h.flags.sender + response_flag b ≡ get_or s 19 0 = rw p.3 (sym f) in
     let joined =
     parts_joined given s (drop 28 s) (long s 0) (long s 8) (get_or s 16 0) (get_or s 17 0) (get_or s 18 0) (get_or s 19 0) (word s 20)
     (word s 24) (front s o l) i r (sym p.0.1 ∙ n) (sym v) (p.2 ∙ sym x) fl d k (sym c)
@@ -636,7 +628,7 @@ with_header_only :
 with_header_only s m (Some h) o t g e =
     let a = and_parts _ _ t in
     let b = and_parts _ _ a.1 in
-    with_body_only s h m (body_in h.exchange h.direction h.next (drop 28 s)) o (leb-true 28 (length s) a.0)
+    with_body_only s h m (body_in h.exchange h.flags.direction h.next (drop 28 s)) o (leb-true 28 (length s) a.0)
     (eqb-true (word s 24) (length s) b.1) (header_only s h g) refl e
 with_header_only s m None o t g e = let z : ◌≡◌ {A = ℕ} 0 1 = cc in absurd (omega arith)
 

@@ -9,6 +9,11 @@ use Rattle.wire.specs.declared.message.Request.{Request}
 use Rattle.wire.specs.declared.message.Request.TheVariants as request
 use Rattle.wire.specs.declared.message.Response.{Response}
 use Rattle.wire.specs.declared.message.Response.TheVariants as response
+use Rattle.wire.specs.declared.header.Exchange.{Exchange}
+use Rattle.wire.specs.declared.header.Exchange.TheVariants.{CreateChildSa, Informational}
+use Rattle.wire.specs.declared.header.Direction.{Direction}
+use Rattle.wire.specs.declared.header.Direction.TheVariants.{Asking, Answering}
+use Rattle.wire.specs.declared.header.Flags.{Flags}
 use Rattle.nonce.specs.declared.side.Side.{Side}
 use Rattle.nonce.specs.declared.side.Side.TheVariants.{A, B}
 
@@ -78,6 +83,10 @@ abbrev pub chain : List Part → List ℕ
 chain [] = []
 chain (p ∷ ps) = first_type ps ∷ 0 ∷ (be16 (4 + length p.body) ++ (p.body ++ chain ps))
 
+abbrev pub exchange_number : Exchange → ℕ
+exchange_number CreateChildSa = 36
+exchange_number Informational = 37
+
 -- the exchange: 36 CREATE_CHILD_SA, 37 INFORMATIONAL
 abbrev pub request_exchange : Request (List ℕ) → ℕ
 request_exchange (request.Create spi nonce) = 36
@@ -99,6 +108,13 @@ exchange_of (body.Response r) = response_exchange r
 abbrev pub sender_flag : Side → ℕ
 sender_flag A = 0x08
 sender_flag B = 0x00
+
+abbrev pub direction_flag : Direction → ℕ
+direction_flag Asking = 0x00
+direction_flag Answering = 0x20
+
+abbrev pub flags_octet : Flags → ℕ
+flags_octet f = sender_flag f.sender + direction_flag f.direction
 
 abbrev pub response_flag : Body (List ℕ) → ℕ
 response_flag (body.Request r) = 0x00

@@ -1,17 +1,17 @@
 //! How a message is read from the octets of a datagram.
 ghost use Rattle.std.specs.Prelude.{◌≡◌, ◌≤◌, cond, ◌&&◌, length};
+ghost use Rattle.std.specs.Option.{ok_or};
 ghost use Rattle.octets.specs.Numbers.{word, long};
 ghost use Rattle.nonce.specs.Nonces.{nonce_long};
-ghost use Rattle.wire.specs.Decoding.{sized, exchange_in, flags_in, header_from, header_in, offer_in, request_in, response_in, informational_in, body_in, decoded};
+ghost use Rattle.wire.specs.Decoding.{sized, header_in, offer_in, request_in, response_in, informational_in, body_in, decoded};
 ghost use Rattle.wire.specs.Chains.{offered};
 ghost use Rattle.wire.specs.Exact.{OneEncoding};
 ghost use Rattle.wire.specs.Readings.{offer_read, request_read, response_read, body_read, message_read};
 
-use crate::header::{Direction, Exchange, Header};
+use crate::header::{Direction, Exchange, Flags, Header};
 use crate::message::{Body, DecodeRefusal, Message, Request, Response};
 use crate::payload::{Chain, Offer, ends, lone_delete, lone_notify, whole_offer, whole_rekey};
 use crate::table::{deleted_in, failure_in, rekeyed_in, sa_in, ts_body};
-use nonce::side::Side;
 use octets::{same, u32_at, u64_at};
 
 /// Whether there are 28 to 160 octets, as many as the header says.
@@ -27,61 +27,22 @@ fn is_sized(s: &[u8]) -> bool
     }
 }
 
-/// The exchange of this type.
-fn exchange_of(kind: u8) -> Option<Exchange>
-    ensures { result ≡ exchange_in kind }
-{
-    match kind {
-        36 => Some(Exchange::CreateChildSa),
-        37 => Some(Exchange::Informational),
-        _ => None,
-    }
-}
-
-/// Who sends a message with these flags, and whether it asks or answers.
-fn flags_of(flags: u8) -> Option<(Side, Direction)>
-    ensures { result ≡ flags_in flags }
-{
-    match flags {
-        0x00 => Some((Side::B, Direction::Asking)),
-        0x08 => Some((Side::A, Direction::Asking)),
-        0x20 => Some((Side::B, Direction::Answering)),
-        0x28 => Some((Side::A, Direction::Answering)),
-        _ => None,
-    }
-}
-
+#[tactic(auto, unfolding(crate::specs::Decoding::header_in))]
 /// What the header of octets says that are long enough for one.
-fn header_of(s: &[u8]) -> Option<Header>
+fn header_of(s: &[u8]) -> Result<Header, DecodeRefusal>
     requires { 28 ≤ length s.now }
-    ensures { result ≡ header_in s.now }
+    ensures { result ≡ ok_or (header_in s.now) DecodeRefusal.Header }
 {
     if s[17] != 0x20 {
-        return None;
+        return Err(DecodeRefusal::Header);
     }
-    let Some(exchange) = exchange_of(s[18]) else {
-        return None;
-    };
-    let Some((sender, direction)) = flags_of(s[19]) else {
-        return None;
-    };
-    let Some(initiator) = u64_at(s, 0) else {
-        return None;
-    };
-    let Some(responder) = u64_at(s, 8) else {
-        return None;
-    };
-    let Some(id) = u32_at(s, 20) else {
-        return None;
-    };
-    Some(Header {
-        initiator,
-        responder,
+    Ok(Header {
+        initiator: u64_at(s, 0).ok_or(DecodeRefusal::Header)?,
+        responder: u64_at(s, 8).ok_or(DecodeRefusal::Header)?,
         next: s[16],
-        exchange,
-        sender,
-        direction,
-        id,
+        exchange: Exchange::try_from(s[18])?,
+        flags: Flags::try_from(s[19])?,
+        id: u32_at(s, 20).ok_or(DecodeRefusal::Header)?,
     })
 }
 
@@ -186,18 +147,16 @@ pub fn decode(s: &[u8]) -> Result<Message<&[u8]>, DecodeRefusal>
     if !is_sized(s) {
         return Err(DecodeRefusal::Length);
     }
-    let Some(header) = header_of(s) else {
-        return Err(DecodeRefusal::Header);
-    };
+    let header = header_of(s)?;
     let chain = Chain {
         kind: header.next,
         octets: s.split_at(28).1,
     };
-    let body = body_of(header.exchange, header.direction, chain)?;
+    let body = body_of(header.exchange, header.flags.direction, chain)?;
     Ok(Message {
         initiator: header.initiator,
         responder: header.responder,
-        sender: header.sender,
+        sender: header.flags.sender,
         id: header.id,
         body,
     })

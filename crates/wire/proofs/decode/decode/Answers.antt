@@ -7,9 +7,9 @@ pub returns-then-not-is_sized : goal.returns-then-not-is_sized
 unfolding decoded
 returns-then-not-is_sized c = record { value = search rules; exact = one_encoding }
 
-pub returns-in_default : goal.returns-in_default
+pub returns-in_err-header : goal.returns-in_err-header
 unfolding decoded
-returns-in_default c = record { value = search rules; exact = one_encoding }
+returns-in_err-header c = record { value = search rules; exact = one_encoding }
 
 pub returns-in_err-body : goal.returns-in_err-body
 unfolding decoded
