@@ -1,5 +1,5 @@
 -- The octets of a message: the header, and the chain of its payloads.
-use Rattle.std.specs.Prelude.{ℕ, ◌+◌, List, [], ◌∷◌, ◌++◌, length}
+use Rattle.std.specs.Prelude.{ℕ, ◌+◌, List, [], ◌∷◌, ◌++◌, length, Some, None, Option}
 use Rattle.octets.specs.Numbers.{be16, be32, be64}
 use Rattle.wire.specs.Payloads.{sa_body, ts_body, rekey_body, failure_body, delete_body}
 use Rattle.wire.specs.declared.message.Message.{Message}
@@ -9,6 +9,8 @@ use Rattle.wire.specs.declared.message.Request.{Request}
 use Rattle.wire.specs.declared.message.Request.TheVariants as request
 use Rattle.wire.specs.declared.message.Response.{Response}
 use Rattle.wire.specs.declared.message.Response.TheVariants as response
+use Rattle.wire.specs.declared.payload.PayloadType.{PayloadType}
+use Rattle.wire.specs.declared.payload.PayloadType.TheVariants as type
 use Rattle.wire.specs.declared.header.Exchange.{Exchange}
 use Rattle.wire.specs.declared.header.Exchange.TheVariants.{CreateChildSa, Informational}
 use Rattle.wire.specs.declared.header.Direction.{Direction}
@@ -43,6 +45,19 @@ module _ {N : Type 0} (f : N → List ℕ) where
     id = m.id;
     body = plain_body m.body;
   }
+
+-- the types of payloads by their numbers, and what announces the next payload: 0 where there is none
+abbrev pub type_number : PayloadType → ℕ
+type_number type.Sa = 33
+type_number type.Nonce = 40
+type_number type.Notify = 41
+type_number type.Delete = 42
+type_number type.TsInitiator = 44
+type_number type.TsResponder = 45
+
+abbrev pub announced : Option PayloadType → ℕ
+announced None = 0
+announced (Some t) = type_number t
 
 -- A payload: its type, and the octets behind its four opening octets.
 pub record Part : Type 0 where

@@ -10,9 +10,9 @@ ghost use Rattle.wire.specs.Readings.{offer_read, request_read, response_read, b
 
 use crate::header::{Direction, Exchange, Flags, Header};
 use crate::message::{Body, DecodeRefusal, Message, Request, Response};
-use crate::payload::{Chain, Offer, ends, lone_delete, lone_notify, whole_offer, whole_rekey};
+use crate::payload::{Chain, Offer, Payload, ends, lone, whole_offer, whole_rekey};
 use crate::table::{deleted_in, failure_in, rekeyed_in, sa_in, ts_body};
-use octets::{same, u32_at, u64_at};
+use octets::{u32_at, u64_at};
 
 /// Whether there are 28 to 160 octets, as many as the header says.
 fn is_sized(s: &[u8]) -> bool
@@ -21,14 +21,11 @@ fn is_sized(s: &[u8]) -> bool
     if s.len() < 28 || s.len() > 160 {
         return false;
     }
-    match u32_at(s, 24) {
-        Some(len) => len as usize == s.len(),
-        None => false,
-    }
+    u32_at(s, 24).is_some_and(|len| len as usize == s.len())
 }
 
-#[tactic(auto, unfolding(crate::specs::Decoding::header_in))]
 /// What the header of octets says that are long enough for one.
+#[tactic(auto, unfolding(crate::specs::Decoding::header_in))]
 fn header_of(s: &[u8]) -> Result<Header, DecodeRefusal>
     requires { 28 ≤ length s.now }
     ensures { result ≡ ok_or (header_in s.now) DecodeRefusal.Header }
@@ -47,17 +44,16 @@ fn header_of(s: &[u8]) -> Result<Header, DecodeRefusal>
 }
 
 /// The SPI and the nonce of an offer.
+#[tactic(auto, unfolding(crate::specs::Decoding::offer_in))]
 fn read_offer(offer: Offer<'_>) -> Result<(u32, &[u8]), DecodeRefusal>
     ensures { offer_read result ≡ offer_in (offered offer.entry) }
 {
-    let Some(spi) = sa_in(offer.sa) else {
-        return Err(DecodeRefusal::Payload);
-    };
+    let spi = sa_in(offer.sa).ok_or(DecodeRefusal::Payload)?;
     if offer.nonce.len() < 16 || offer.nonce.len() > 32 {
         return Err(DecodeRefusal::NonceLength);
     }
     let all = ts_body();
-    if same(offer.tsi, &all) && same(offer.tsr, &all) {
+    if offer.tsi == all.as_slice() && offer.tsr == all.as_slice() {
         Ok((spi, offer.nonce))
     } else {
         Err(DecodeRefusal::Payload)
@@ -65,6 +61,7 @@ fn read_offer(offer: Offer<'_>) -> Result<(u32, &[u8]), DecodeRefusal>
 }
 
 /// The request of the exchange CREATE_CHILD_SA that a chain is.
+#[tactic(auto, unfolding(crate::specs::Decoding::request_in))]
 fn create_request(chain: Chain<'_>) -> Result<Request<&[u8]>, DecodeRefusal>
     ensures { request_read result ≡ request_in chain.entry.kind chain.entry.octets.now }
 {
@@ -72,17 +69,14 @@ fn create_request(chain: Chain<'_>) -> Result<Request<&[u8]>, DecodeRefusal>
         let (spi, nonce) = read_offer(offer)?;
         return Ok(Request::Create { spi, nonce });
     }
-    let Some((notify, offer)) = whole_rekey(chain) else {
-        return Err(DecodeRefusal::Chain);
-    };
-    let Some(old) = rekeyed_in(notify) else {
-        return Err(DecodeRefusal::Payload);
-    };
+    let (notify, offer) = whole_rekey(chain).ok_or(DecodeRefusal::Chain)?;
+    let old = rekeyed_in(notify).ok_or(DecodeRefusal::Payload)?;
     let (spi, nonce) = read_offer(offer)?;
     Ok(Request::Rekey { old, spi, nonce })
 }
 
 /// The response of the exchange CREATE_CHILD_SA that a chain is.
+#[tactic(auto, unfolding(crate::specs::Decoding::response_in))]
 fn create_response(chain: Chain<'_>) -> Result<Response<&[u8]>, DecodeRefusal>
     ensures { response_read result ≡ response_in chain.entry.kind chain.entry.octets.now }
 {
@@ -90,29 +84,25 @@ fn create_response(chain: Chain<'_>) -> Result<Response<&[u8]>, DecodeRefusal>
         let (spi, nonce) = read_offer(offer)?;
         return Ok(Response::NewSa { spi, nonce });
     }
-    let Some(notify) = lone_notify(chain) else {
+    let Some(Payload::Notify(notify)) = lone(chain) else {
         return Err(DecodeRefusal::Chain);
     };
-    match failure_in(notify) {
-        Some(failure) => Ok(Response::Failed(failure)),
-        None => Err(DecodeRefusal::Payload),
-    }
+    let failure = failure_in(notify).ok_or(DecodeRefusal::Payload)?;
+    Ok(Response::Failed(failure))
 }
 
 /// The SPI that a message of the exchange INFORMATIONAL deletes, or nothing where it is empty.
+#[tactic(auto, unfolding(crate::specs::Decoding::informational_in))]
 fn informational(chain: Chain<'_>) -> Result<Option<u32>, DecodeRefusal>
     ensures { result ≡ informational_in chain.entry.kind chain.entry.octets.now }
 {
     if ends(chain) {
         return Ok(None);
     }
-    let Some(body) = lone_delete(chain) else {
+    let Some(Payload::Delete(body)) = lone(chain) else {
         return Err(DecodeRefusal::Chain);
     };
-    match deleted_in(body) {
-        Some(spi) => Ok(Some(spi)),
-        None => Err(DecodeRefusal::Payload),
-    }
+    deleted_in(body).map(Some).ok_or(DecodeRefusal::Payload)
 }
 
 /// What a chain of payloads says in this exchange and direction.
@@ -124,22 +114,25 @@ fn body_of(
     ensures { body_read result ≡ body_in exchange direction chain.entry.kind chain.entry.octets.now }
 {
     match (exchange, direction) {
-        (Exchange::CreateChildSa, Direction::Asking) => Ok(Body::Request(create_request(chain)?)),
-        (Exchange::CreateChildSa, Direction::Answering) => Ok(Body::Response(create_response(
-            chain,
-        )?)),
-        (Exchange::Informational, Direction::Asking) => match informational(chain)? {
-            Some(spi) => Ok(Body::Request(Request::Delete { spi })),
-            None => Ok(Body::Request(Request::Empty)),
-        },
-        (Exchange::Informational, Direction::Answering) => match informational(chain)? {
-            Some(spi) => Ok(Body::Response(Response::Delete { spi })),
-            None => Ok(Body::Response(Response::Empty)),
-        },
+        (Exchange::CreateChildSa, Direction::Asking) => create_request(chain).map(Body::Request),
+        (Exchange::CreateChildSa, Direction::Answering) => {
+            create_response(chain).map(Body::Response)
+        }
+        (Exchange::Informational, Direction::Asking) => {
+            let deleted = informational(chain)?;
+            let request = deleted.map_or(Request::Empty, |spi| Request::Delete { spi });
+            Ok(Body::Request(request))
+        }
+        (Exchange::Informational, Direction::Answering) => {
+            let deleted = informational(chain)?;
+            let response = deleted.map_or(Response::Empty, |spi| Response::Delete { spi });
+            Ok(Body::Response(response))
+        }
     }
 }
 
 /// The message that these octets are, its nonce a part of them, or the first check that they fail.
+#[tactic(auto, using(crate::proofs::Exactly::one_encoding), unfolding(crate::specs::Decoding::decoded))]
 pub fn decode(s: &[u8]) -> Result<Message<&[u8]>, DecodeRefusal>
     ensures value { message_read result ≡ decoded s.now }
     ensures exact { OneEncoding }

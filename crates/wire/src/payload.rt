@@ -1,8 +1,41 @@
 //! The chain of payloads behind the header, each a part of the datagram.
-ghost use Rattle.std.specs.Prelude.{◌≡◌, false, ◌&&◌, [], ◌∷◌, length, IfSome, if◌then◌else◌, None, MatchOption, ◌==◌};
-ghost use Rattle.std.specs.Option.{option_map};
+ghost use Rattle.std.specs.Prelude.{◌≡◌, ℕ, true, [], ◌∷◌, ◌&&◌, length, IfSome, if◌then◌else◌, None, ◌==◌};
+ghost use Rattle.std.specs.Option.{option_map, ok_or};
 ghost use Rattle.wire.specs.Decoding.{opened, bodies, offer_order, rekey_order};
-ghost use Rattle.wire.specs.Chains.{opening, known, type_of, body_of, split_off, type_before, selected, offered, rekeyed, alone};
+ghost use Rattle.wire.specs.Chains.{cut, known, type_in, type_of, body_of, split_off, type_before, selected, offered, rekeyed, lone_body};
+ghost use Rattle.wire.specs.Messages.{type_number, announced};
+ghost use Rattle.wire.specs.declared.message.DecodeRefusal.TheVariants as refusal;
+
+use crate::message::DecodeRefusal;
+
+/// The types of payloads.
+#[derive(Clone, Copy)]
+pub(crate) enum PayloadType {
+    Sa = 33,
+    Nonce = 40,
+    Notify = 41,
+    Delete = 42,
+    TsInitiator = 44,
+    TsResponder = 45,
+}
+
+impl TryFrom<u8> for PayloadType {
+    type Error = DecodeRefusal;
+
+    ghost try_from_gives = { λ octet r. r ≡ ok_or (type_in octet) refusal.Chain };
+
+    fn try_from(octet: u8) -> Result<PayloadType, DecodeRefusal> {
+        match octet {
+            33 => Ok(PayloadType::Sa),
+            40 => Ok(PayloadType::Nonce),
+            41 => Ok(PayloadType::Notify),
+            42 => Ok(PayloadType::Delete),
+            44 => Ok(PayloadType::TsInitiator),
+            45 => Ok(PayloadType::TsResponder),
+            _ => Err(DecodeRefusal::Chain),
+        }
+    }
+}
 
 /// A payload by its type. Each case borrows the octets behind the four opening ones from the datagram.
 #[derive(Clone, Copy)]
@@ -22,14 +55,6 @@ pub(crate) struct Chain<'a> {
     pub octets: &'a [u8],
 }
 
-/// The first payload of a chain: its body, the type of the next one, and the octets behind it.
-#[derive(Clone, Copy)]
-pub(crate) struct Opening<'a> {
-    pub body: &'a [u8],
-    pub next: u8,
-    pub rest: &'a [u8],
-}
-
 /// The bodies of an offer: SA, Nonce, TSi, TSr.
 #[derive(Clone, Copy)]
 pub(crate) struct Offer<'a> {
@@ -39,9 +64,9 @@ pub(crate) struct Offer<'a> {
     pub tsr: &'a [u8],
 }
 
-/// Takes the four opening octets of a payload, and then its body.
-fn open(octets: &[u8]) -> Option<Opening<'_>>
-    ensures { option_map opening result ≡ opened octets.now }
+/// Takes the four opening octets of a payload, and then its body; the chain behind it is left.
+fn open(octets: &[u8]) -> Option<(&[u8], Chain<'_>)>
+    ensures { option_map cut result ≡ opened octets.now }
 {
     match octets {
         [next, 0, high, low, behind @ ..] => {
@@ -49,12 +74,9 @@ fn open(octets: &[u8]) -> Option<Opening<'_>>
             if len < 4 || len - 4 > behind.len() {
                 return None;
             }
-            let (body, rest) = behind.split_at(len - 4);
-            Some(Opening {
-                body,
-                next: *next,
-                rest,
-            })
+            let (body, octets) = behind.split_at(len - 4);
+            let kind = *next;
+            Some((body, Chain { kind, octets }))
         }
         // the octet that must be zero is not
         [_, _, _, _, ..] => None,
@@ -63,18 +85,18 @@ fn open(octets: &[u8]) -> Option<Opening<'_>>
     }
 }
 
-/// The payload of this type and body, or nothing where there is no such type.
-fn of_type(kind: u8, body: &[u8]) -> Option<Payload<'_>>
-    ensures { MatchOption result (known kind ≡ false) (λ p. (type_of p ≡ kind) × (body_of p ≡ body.now)) }
+/// The payload of this type and body.
+fn of_type(kind: PayloadType, body: &[u8]) -> Payload<'_>
+    ensures kind { type_of result ≡ type_number kind }
+    ensures body { body_of result ≡ body.now }
 {
     match kind {
-        33 => Some(Payload::Sa(body)),
-        40 => Some(Payload::Nonce(body)),
-        41 => Some(Payload::Notify(body)),
-        42 => Some(Payload::Delete(body)),
-        44 => Some(Payload::TsInitiator(body)),
-        45 => Some(Payload::TsResponder(body)),
-        _ => None,
+        PayloadType::Sa => Payload::Sa(body),
+        PayloadType::Nonce => Payload::Nonce(body),
+        PayloadType::Notify => Payload::Notify(body),
+        PayloadType::Delete => Payload::Delete(body),
+        PayloadType::TsInitiator => Payload::TsInitiator(body),
+        PayloadType::TsResponder => Payload::TsResponder(body),
     }
 }
 
@@ -83,19 +105,9 @@ fn first(chain: Chain<'_>) -> Option<(Payload<'_>, Chain<'_>)>
     ensures split { option_map split_off result ≡ (if known chain.entry.kind then opened chain.entry.octets.now else None) }
     ensures kind { IfSome result (λ p. type_before p ≡ chain.entry.kind) }
 {
-    let Some(opening) = open(chain.octets) else {
-        return None;
-    };
-    let Some(payload) = of_type(chain.kind, opening.body) else {
-        return None;
-    };
-    Some((
-        payload,
-        Chain {
-            kind: opening.next,
-            octets: opening.rest,
-        },
-    ))
+    let kind = PayloadType::try_from(chain.kind).ok()?;
+    let (body, behind) = open(chain.octets)?;
+    Some((of_type(kind, body), behind))
 }
 
 /// Whether no payload is left.
@@ -115,7 +127,7 @@ fn selectors(chain: Chain<'_>) -> Option<(&[u8], &[u8])>
     let Some((Payload::TsResponder(tsr), chain)) = first(chain) else {
         return None;
     };
-    if ends(chain) { Some((tsi, tsr)) } else { None }
+    ends(chain).then_some((tsi, tsr))
 }
 
 /// The bodies of the offer that a chain consists of.
@@ -128,15 +140,13 @@ pub(crate) fn whole_offer(chain: Chain<'_>) -> Option<Offer<'_>>
     let Some((Payload::Nonce(nonce), chain)) = first(chain) else {
         return None;
     };
-    match selectors(chain) {
-        Some((tsi, tsr)) => Some(Offer {
-            sa,
-            nonce,
-            tsi,
-            tsr,
-        }),
-        None => None,
-    }
+    let (tsi, tsr) = selectors(chain)?;
+    Some(Offer {
+        sa,
+        nonce,
+        tsi,
+        tsr,
+    })
 }
 
 /// The bodies of the notification and the offer that a chain consists of.
@@ -146,28 +156,13 @@ pub(crate) fn whole_rekey(chain: Chain<'_>) -> Option<(&[u8], Offer<'_>)>
     let Some((Payload::Notify(notify), chain)) = first(chain) else {
         return None;
     };
-    match whole_offer(chain) {
-        Some(offer) => Some((notify, offer)),
-        None => None,
-    }
+    Some((notify, whole_offer(chain)?))
 }
 
-/// The body of the notification that a chain consists of.
-pub(crate) fn lone_notify(chain: Chain<'_>) -> Option<&[u8]>
-    ensures { option_map alone result ≡ bodies (41 ∷ []) chain.entry.kind chain.entry.octets.now }
+/// The payload that a chain consists of.
+pub(crate) fn lone(chain: Chain<'_>) -> Option<Payload<'_>>
+    ensures { (t : ℕ) → known t ≡ true → lone_body t result ≡ bodies (t ∷ []) chain.entry.kind chain.entry.octets.now }
 {
-    let Some((Payload::Notify(body), chain)) = first(chain) else {
-        return None;
-    };
-    if ends(chain) { Some(body) } else { None }
-}
-
-/// The body of the Delete payload that a chain consists of.
-pub(crate) fn lone_delete(chain: Chain<'_>) -> Option<&[u8]>
-    ensures { option_map alone result ≡ bodies (42 ∷ []) chain.entry.kind chain.entry.octets.now }
-{
-    let Some((Payload::Delete(body), chain)) = first(chain) else {
-        return None;
-    };
-    if ends(chain) { Some(body) } else { None }
+    let (payload, chain) = first(chain)?;
+    ends(chain).then_some(payload)
 }
