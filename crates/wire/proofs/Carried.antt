@@ -1,8 +1,10 @@
 -- A number that a body carries at a place.
-use Rattle.std.proofs.Common.{◌≡◌, ℕ, ◌+◌, ◌<◌, true, false, cond, leb, List, length, Some, None, Option, sym, ap, ◌∙◌, ⊎_elim, arith}
+use Rattle.std.proofs.Common.{◌≡◌, ℕ, ◌+◌, ◌<◌, true, false, cond, leb, List, length, Some, None, Option, sym, refl, ap, ◌∙◌, ⊎_elim, arith}
 use Rattle.std.proofs.lemmas.Slice.Eq.{bytes_eq-Decides}
 use Rattle.std.proofs.lemmas.Bool.{cases_Bool, cond-false, leb-true}
 use Rattle.std.specs.Str.{bytes_eq}
+use Rattle.std.specs.Bool.{then_some}
+use Rattle.std.specs.Prelude.{Bool, MatchOption}
 use Rattle.octets.specs.Numbers.{word, within}
 use Rattle.octets.proofs.Words.{within_some, within_none}
 use Rattle.wire.specs.Payloads.{carried}
@@ -33,3 +35,17 @@ pub carried_read :
     Some x ≡ within s i 4 (word s i) → b ≡ table x → r ≡ cond (bytes_eq s b) (Some x) None → r ≡ carried table i s
 unfolding carried
 carried_read table s i x b r e h a = let k = (within_some s i 4 x (word s i) e).0 in a ∙ rw (h, k)
+
+then_some-cond : (b : Bool) (x : ℕ) → then_some b x ≡ cond b (Some x) None
+then_some-cond true x = refl
+then_some-cond false x = refl
+
+-- the number that is read at place i, kept where the body is the table's for it
+pub carried_kept :
+    (table : ℕ → List ℕ) (s : List ℕ) (i : ℕ) (o r : Option ℕ) (Answers : ℕ → Bool → Type 0) →
+    ((x : ℕ) → leb (i + 4) (length (table x)) ≡ true) → o ≡ within s i 4 (word s i) →
+    ((x : ℕ) (b : Bool) → Answers x b → b ≡ bytes_eq s (table x)) →
+    MatchOption o (r ≡ None) (λ x. (b : Bool) × Answers x b × (r ≡ then_some b x)) → r ≡ carried table i s
+carried_kept table s i None r Answers long e same h = h ∙ carried_short table s i long e
+carried_kept table s i (Some x) r Answers long e same (b, a, h) =
+    carried_read table s i x (table x) r e refl (h ∙ ap (λ y. then_some y x) (same x b a) ∙ then_some-cond _ x)

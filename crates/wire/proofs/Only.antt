@@ -56,7 +56,7 @@ carried_by :
 carried_by table i s x true t e =
     let w : x ≡ word s i = cc in
     (rw w (same_equal s (table (word s i)) t), w)
-carried_by table i s x false t e = let z : ◌≡◌ {A = ℕ} 0 1 = cc in absurd (omega arith)
+carried_by table i s x false t e = cc
 
 carried_only :
     (table : ℕ → List ℕ) (i : ℕ) (s : List ℕ) (x : ℕ) → Octets s → carried table i s ≡ Some x →
@@ -90,10 +90,10 @@ failure_some s (ChildSaNotFound y) (Some x) o h e =
     let r = not_found_only s x o h in
     let z : x ≡ y = cc in
     (rw (← z) r.0, rw (← z) r.1)
-failure_some s NoProposalChosen (Some x) o h e = let z : ◌≡◌ {A = ℕ} 0 1 = cc in absurd (omega arith)
-failure_some s NoAdditionalSas (Some x) o h e = let z : ◌≡◌ {A = ℕ} 0 1 = cc in absurd (omega arith)
-failure_some s TemporaryFailure (Some x) o h e = let z : ◌≡◌ {A = ℕ} 0 1 = cc in absurd (omega arith)
-failure_some s f None o h e = let z : ◌≡◌ {A = ℕ} 0 1 = cc in absurd (omega arith)
+failure_some s NoProposalChosen (Some x) o h e = cc
+failure_some s NoAdditionalSas (Some x) o h e = cc
+failure_some s TemporaryFailure (Some x) o h e = cc
+failure_some s f None o h e = cc
 
 failure_by :
     (s : List ℕ) (e : Failure) (a b c : Bool) → Octets s → bytes_eq s (failure_body NoProposalChosen) ≡ a →
@@ -169,7 +169,7 @@ opened_by :
 opened_by s p true o t e =
     let z : (record { body = take (half s 2 - 4) (drop 4 s); next = get_or s 0 0; rest = drop (half s 2) s }) ≡ p = cc in
     subst (λ x. First s x) z (opened_first s o t)
-opened_by s p false o t e = let z : ◌≡◌ {A = ℕ} 0 1 = cc in absurd (omega arith)
+opened_by s p false o t e = cc
 
 opened_only : (s : List ℕ) (p : Opened) → Octets s → opened s ≡ Some p → First s p
 unfolding opened
@@ -179,7 +179,7 @@ taken_only :
     (t k : ℕ) (s : List ℕ) (p : Opened) (b : Bool) → Octets s → eqb k t ≡ b → cond b (opened s) None ≡ Some p →
     (k ≡ t) × First s p
 taken_only t k s p true o h e = (eqb-true k t h, opened_only s p o e)
-taken_only t k s p false o h e = let z : ◌≡◌ {A = ℕ} 0 1 = cc in absurd (omega arith)
+taken_only t k s p false o h e = cc
 
 -- payloads of these types and bodies
 abbrev pub zipped : List ℕ → List (List ℕ) → List Part
@@ -202,8 +202,8 @@ end_only :
 end_only k s [] true h e =
     let a = and_parts _ _ h in
     (nil_from_length s (eqb-true (length s) 0 a.1), eqb-true k 0 a.0, refl, tt)
-end_only k s (x ∷ bs) true h e = let z : ◌≡◌ {A = ℕ} 0 1 = cc in absurd (omega arith)
-end_only k s bs false h e = let z : ◌≡◌ {A = ℕ} 0 1 = cc in absurd (omega arith)
+end_only k s (x ∷ bs) true h e = cc
+end_only k s bs false h e = cc
 
 step_only :
     (t k : ℕ) (ts s : List ℕ) (p : Opened) (b : List ℕ) (bs : List (List ℕ)) → (k ≡ t) × First s p → p.body ≡ b →
@@ -220,15 +220,15 @@ module _ (t k : ℕ) (ts s : List ℕ) (o : Octets s) where
         let j : p.body ≡ b = cc in
         let m : cs ≡ bs = cc in
         step_only t k ts s p b bs f j (again p.next p.rest bs f.1.2 (h ∙ ap (λ x. Some x) m))
-    before_only p [] (Some cs) f h e = let z : ◌≡◌ {A = ℕ} 0 1 = cc in absurd (omega arith)
-    before_only p bs None f h e = let z : ◌≡◌ {A = ℕ} 0 1 = cc in absurd (omega arith)
+    before_only p [] (Some cs) f h e = cc
+    before_only p bs None f h e = cc
 
     followed_only :
         (bs : List (List ℕ)) (q : Option Opened) → taken t k s ≡ q →
         followed q (λ p. bodies ts p.next p.rest) ≡ Some bs → Split (t ∷ ts) k s bs
     followed_only bs (Some p) h e =
         before_only p bs (bodies ts p.next p.rest) (taken_only t k s p (eqb k t) o refl h) refl e
-    followed_only bs None h e = let z : ◌≡◌ {A = ℕ} 0 1 = cc in absurd (omega arith)
+    followed_only bs None h e = cc
 
 bodies_only :
     (ts : List ℕ) (k : ℕ) (s : List ℕ) (bs : List (List ℕ)) → Octets s → bodies ts k s ≡ Some bs → Split ts k s bs
@@ -250,8 +250,8 @@ nonce_only x y a b c d n true true e f g h i =
     let j = same_equal c ts_body m.0 in
     let k = same_equal d ts_body m.1 in
     (rw (← u, ← v, e, j, k), (rw (← u) f, rw (← v) (leb-true 16 (length b) l.0), rw (← v) (leb-true (length b) 32 l.1)))
-nonce_only x y a b c d n true false e f g h i = let z : ◌≡◌ {A = ℕ} 0 1 = cc in absurd (omega arith)
-nonce_only x y a b c d n false q e f g h i = let z : ◌≡◌ {A = ℕ} 0 1 = cc in absurd (omega arith)
+nonce_only x y a b c d n true false e f g h i = cc
+nonce_only x y a b c d n false q e f g h i = cc
 
 sa_then_only :
     (a b c d : List ℕ) (y : ℕ) (n : List ℕ) (q : Option ℕ) → Octets a → sa_in a ≡ q →
@@ -260,7 +260,7 @@ sa_then_only :
 sa_then_only a b c d y n (Some x) o h e =
     let r = sa_only a x o h in
     nonce_only x y a b c d n (nonce_long b) (bytes_eq c ts_body && bytes_eq d ts_body) r.0 r.1 refl refl e
-sa_then_only a b c d y n None o h e = let z : ◌≡◌ {A = ℕ} 0 1 = cc in absurd (omega arith)
+sa_then_only a b c d y n None o h e = cc
 
 offer_only :
     (bs : List (List ℕ)) (y : ℕ) (n : List ℕ) → length bs ≡ 4 → Each bs → offer_in bs ≡ Ok (y, n) →
@@ -295,7 +295,7 @@ create_only k s bs r (Ok (x, n)) p h e =
     let z : request.Create x n ≡ r = cc in
     subst (λ x. Requested k s x) z
     (split_reads offer_order k s bs (offer_parts x n) p f.0, f.1, refl)
-create_only k s bs r (Err d) p h e = let z : ◌≡◌ {A = ℕ} 0 1 = cc in absurd (omega arith)
+create_only k s bs r (Err d) p h e = cc
 
 rekey_only :
     (k : ℕ) (s : List ℕ) (a : List ℕ) (bs : List (List ℕ)) (r : Request (List ℕ)) (u : Option ℕ)
@@ -310,8 +310,8 @@ rekey_only k s a bs r (Some o) (Ok (x, n)) p g h e =
     let j : zipped rekey_order (a ∷ bs) ≡ part 41 (rekey_body o) ∷ offer_parts x n = rw (f.0, v.0) in
     subst (λ x. Requested k s x) z
     (split_reads rekey_order k s (a ∷ bs) (part 41 (rekey_body o) ∷ offer_parts x n) p j, (v.1, f.1), refl)
-rekey_only k s a bs r (Some o) (Err d) p g h e = let z : ◌≡◌ {A = ℕ} 0 1 = cc in absurd (omega arith)
-rekey_only k s a bs r None q p g h e = let z : ◌≡◌ {A = ℕ} 0 1 = cc in absurd (omega arith)
+rekey_only k s a bs r (Some o) (Err d) p g h e = cc
+rekey_only k s a bs r None q p g h e = cc
 
 rekey_from_only :
     (k : ℕ) (s : List ℕ) (r : Request (List ℕ)) (q : Option (List (List ℕ))) → Octets s → bodies rekey_order k s ≡ q →
@@ -320,7 +320,7 @@ rekey_from_only k s r (Some (a ∷ bs)) o h e =
     rekey_only k s a bs r (rekeyed_in a) (offer_in bs) (bodies_only rekey_order k s (a ∷ bs) o h) refl refl e
 rekey_from_only k s r (Some []) o h e =
     let p = bodies_only rekey_order k s [] o h in absurd (omega (arith, p.2))
-rekey_from_only k s r None o h e = let z : ◌≡◌ {A = ℕ} 0 1 = cc in absurd (omega arith)
+rekey_from_only k s r None o h e = cc
 
 create_or_only :
     (k : ℕ) (s : List ℕ) (r : Request (List ℕ)) (q : Option (List (List ℕ))) → Octets s → bodies offer_order k s ≡ q →
@@ -344,7 +344,7 @@ new_only k s bs r (Ok (x, n)) p h e =
     let z : response.NewSa x n ≡ r = cc in
     subst (λ x. Responded k s x) z
     (split_reads offer_order k s bs (offer_parts x n) p f.0, f.1, refl)
-new_only k s bs r (Err d) p h e = let z : ◌≡◌ {A = ℕ} 0 1 = cc in absurd (omega arith)
+new_only k s bs r (Err d) p h e = cc
 
 failed_only :
     (k : ℕ) (s : List ℕ) (a : List ℕ) (bs : List (List ℕ)) (r : Response (List ℕ)) (u : Option Failure) →
@@ -355,7 +355,7 @@ failed_only k s a bs r (Some f) p g e =
     let j : zipped (41 ∷ []) (a ∷ bs) ≡ part 41 (failure_body f) ∷ [] = rw v.0 in
     subst (λ x. Responded k s x) z
     (split_reads (41 ∷ []) k s (a ∷ bs) (part 41 (failure_body f) ∷ []) p j, v.1, refl)
-failed_only k s a bs r None p g e = let z : ◌≡◌ {A = ℕ} 0 1 = cc in absurd (omega arith)
+failed_only k s a bs r None p g e = cc
 
 failed_from_only :
     (k : ℕ) (s : List ℕ) (r : Response (List ℕ)) (q : Option (List (List ℕ))) → Octets s → bodies (41 ∷ []) k s ≡ q →
@@ -364,7 +364,7 @@ failed_from_only k s r (Some (a ∷ bs)) o h e =
     failed_only k s a bs r (failure_in a) (bodies_only (41 ∷ []) k s (a ∷ bs) o h) refl e
 failed_from_only k s r (Some []) o h e =
     let p = bodies_only (41 ∷ []) k s [] o h in absurd (omega (arith, p.2))
-failed_from_only k s r None o h e = let z : ◌≡◌ {A = ℕ} 0 1 = cc in absurd (omega arith)
+failed_from_only k s r None o h e = cc
 
 new_or_only :
     (k : ℕ) (s : List ℕ) (r : Response (List ℕ)) (q : Option (List (List ℕ))) → Octets s → bodies offer_order k s ≡ q →
@@ -397,7 +397,7 @@ deleting_only k s a bs r (Some x) p g e =
     let j : zipped (42 ∷ []) (a ∷ bs) ≡ part 42 (delete_body x) ∷ [] = rw v.0 in
     subst (λ y. Reads k s (informational_parts y) × ValidInformational y) z
     (split_reads (42 ∷ []) k s (a ∷ bs) (part 42 (delete_body x) ∷ []) p j, v.1)
-deleting_only k s a bs r None p g e = let z : ◌≡◌ {A = ℕ} 0 1 = cc in absurd (omega arith)
+deleting_only k s a bs r None p g e = cc
 
 deleted_from_only :
     (k : ℕ) (s : List ℕ) (r : Option ℕ) (q : Option (List (List ℕ))) → Octets s → bodies (42 ∷ []) k s ≡ q →
@@ -406,7 +406,7 @@ deleted_from_only k s r (Some (a ∷ bs)) o h e =
     deleting_only k s a bs r (deleted_in a) (bodies_only (42 ∷ []) k s (a ∷ bs) o h) refl e
 deleted_from_only k s r (Some []) o h e =
     let p = bodies_only (42 ∷ []) k s [] o h in absurd (omega (arith, p.2))
-deleted_from_only k s r None o h e = let z : ◌≡◌ {A = ℕ} 0 1 = cc in absurd (omega arith)
+deleted_from_only k s r None o h e = cc
 
 empty_or_only :
     (k : ℕ) (s : List ℕ) (r : Option ℕ) (q : Option (List (List ℕ))) → Octets s → bodies [] k s ≡ q →
@@ -435,7 +435,7 @@ asks_only k s b (Ok r) o h e =
     let f = request_only k s r o h in
     let z : body.Request r ≡ b = cc in
     subst (λ x. Read CreateChildSa Asking k s x) z (f.0, f.1, f.2, refl)
-asks_only k s b (Err d) o h e = let z : ◌≡◌ {A = ℕ} 0 1 = cc in absurd (omega arith)
+asks_only k s b (Err d) o h e = cc
 
 answers_only :
     (k : ℕ) (s : List ℕ) (b : Body (List ℕ)) (q : Result (Response (List ℕ)) DecodeRefusal) → Octets s →
@@ -444,7 +444,7 @@ answers_only k s b (Ok r) o h e =
     let f = response_only k s r o h in
     let z : body.Response r ≡ b = cc in
     subst (λ x. Read CreateChildSa Answering k s x) z (f.0, f.1, f.2, refl)
-answers_only k s b (Err d) o h e = let z : ◌≡◌ {A = ℕ} 0 1 = cc in absurd (omega arith)
+answers_only k s b (Err d) o h e = cc
 
 informs_request_only :
     (k : ℕ) (s : List ℕ) (b : Body (List ℕ)) (q : Result (Option ℕ) DecodeRefusal) → Octets s →
@@ -457,7 +457,7 @@ informs_request_only k s b (Ok (Some y)) o h e =
     let f = informational_only k s (Some y) o h in
     let z : body.Request (request.Delete y) ≡ b = cc in
     subst (λ x. Read Informational Asking k s x) z (f.0, f.1, refl, refl)
-informs_request_only k s b (Err d) o h e = let z : ◌≡◌ {A = ℕ} 0 1 = cc in absurd (omega arith)
+informs_request_only k s b (Err d) o h e = cc
 
 informs_response_only :
     (k : ℕ) (s : List ℕ) (b : Body (List ℕ)) (q : Result (Option ℕ) DecodeRefusal) → Octets s →
@@ -470,7 +470,7 @@ informs_response_only k s b (Ok (Some y)) o h e =
     let f = informational_only k s (Some y) o h in
     let z : body.Response (response.Delete y) ≡ b = cc in
     subst (λ x. Read Informational Answering k s x) z (f.0, f.1, refl, refl)
-informs_response_only k s b (Err d) o h e = let z : ◌≡◌ {A = ℕ} 0 1 = cc in absurd (omega arith)
+informs_response_only k s b (Err d) o h e = cc
 
 body_only :
     (x : Exchange) (d : Direction) (k : ℕ) (s : List ℕ) (b : Body (List ℕ)) → Octets s → body_in x d k s ≡ Ok b →
@@ -512,15 +512,15 @@ header_from_only s h (Some x) (Some f) v g j e =
     let z : given ≡ h = cc in
     subst (λ y. Headed s y) z
     (v, exchange_only (get_or s 18 0) x g, flags_only (get_or s 19 0) f.sender f.direction j, refl, refl, refl, refl)
-header_from_only s h (Some x) None v g j e = let z : ◌≡◌ {A = ℕ} 0 1 = cc in absurd (omega arith)
-header_from_only s h None f v g j e = let z : ◌≡◌ {A = ℕ} 0 1 = cc in absurd (omega arith)
+header_from_only s h (Some x) None v g j e = cc
+header_from_only s h None f v g j e = cc
 
 header_by :
     (s : List ℕ) (h : Header) (b : Bool) → eqb (get_or s 17 0) 0x20 ≡ b →
     cond b (header_from s (exchange_in (get_or s 18 0)) (flags_in (get_or s 19 0))) None ≡ Some h → Headed s h
 header_by s h true v e =
     header_from_only s h (exchange_in (get_or s 18 0)) (flags_in (get_or s 19 0)) (eqb-true (get_or s 17 0) 0x20 v) refl refl e
-header_by s h false v e = let z : ◌≡◌ {A = ℕ} 0 1 = cc in absurd (omega arith)
+header_by s h false v e = cc
 
 header_only : (s : List ℕ) (h : Header) → header_in s ≡ Some h → Headed s h
 unfolding header_in
@@ -620,7 +620,7 @@ with_body_only s h m (Ok b) o l w (v, x, f, i, r, n, d) g e =
         body = p.1;
       },
     )
-with_body_only s h m (Err d) o l w k g e = let z : ◌≡◌ {A = ℕ} 0 1 = cc in absurd (omega arith)
+with_body_only s h m (Err d) o l w k g e = cc
 
 with_header_only :
     (s : List ℕ) (m : Message (List ℕ)) (q : Option Header) → Octets s → sized s ≡ true → header_in s ≡ q →
@@ -630,13 +630,13 @@ with_header_only s m (Some h) o t g e =
     let b = and_parts _ _ a.1 in
     with_body_only s h m (body_in h.exchange h.flags.direction h.next (drop 28 s)) o (leb-true 28 (length s) a.0)
     (eqb-true (word s 24) (length s) b.1) (header_only s h g) refl e
-with_header_only s m None o t g e = let z : ◌≡◌ {A = ℕ} 0 1 = cc in absurd (omega arith)
+with_header_only s m None o t g e = cc
 
 decoded_by :
     (s : List ℕ) (m : Message (List ℕ)) (b : Bool) → Octets s → sized s ≡ b →
     cond b (with_header (header_in s) s) (Err refusal.Length) ≡ Ok m → (octets_of m ≡ s) × Valid m
 decoded_by s m true o t e = with_header_only s m (header_in s) o t refl e
-decoded_by s m false o t e = let z : ◌≡◌ {A = ℕ} 0 1 = cc in absurd (omega arith)
+decoded_by s m false o t e = cc
 
 pub message_only : (s : List ℕ) (m : Message (List ℕ)) → Octets s → decoded s ≡ Ok m → (octets_of m ≡ s) × Valid m
 unfolding decoded

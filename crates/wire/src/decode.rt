@@ -8,10 +8,10 @@ ghost use Rattle.wire.specs.Chains.{offered};
 ghost use Rattle.wire.specs.Exact.{OneEncoding};
 ghost use Rattle.wire.specs.Readings.{offer_read, request_read, response_read, body_read, message_read};
 
-use crate::header::{Direction, Exchange, Flags, Header};
+use crate::header::{Direction, Exchange, Flags, Header, VERSION};
 use crate::message::{Body, DecodeRefusal, Message, Request, Response};
 use crate::payload::{Chain, Offer, Payload, ends, lone, whole_offer, whole_rekey};
-use crate::table::{deleted_in, failure_in, rekeyed_in, sa_in, ts_body};
+use crate::table::{Naming, failure_in, named_in, sa_in, ts_body};
 use octets::{u32_at, u64_at};
 
 /// Whether there are 28 to 160 octets, as many as the header says.
@@ -30,7 +30,7 @@ fn header_of(s: &[u8]) -> Result<Header, DecodeRefusal>
     requires { 28 ≤ length s.now }
     ensures { result ≡ ok_or (header_in s.now) DecodeRefusal.Header }
 {
-    if s[17] != 0x20 {
+    if s[17] != VERSION {
         return Err(DecodeRefusal::Header);
     }
     Ok(Header {
@@ -70,7 +70,7 @@ fn create_request(chain: Chain<'_>) -> Result<Request<&[u8]>, DecodeRefusal>
         return Ok(Request::Create { spi, nonce });
     }
     let (notify, offer) = whole_rekey(chain).ok_or(DecodeRefusal::Chain)?;
-    let old = rekeyed_in(notify).ok_or(DecodeRefusal::Payload)?;
+    let old = named_in(Naming::Rekeyed, notify).ok_or(DecodeRefusal::Payload)?;
     let (spi, nonce) = read_offer(offer)?;
     Ok(Request::Rekey { old, spi, nonce })
 }
@@ -102,7 +102,9 @@ fn informational(chain: Chain<'_>) -> Result<Option<u32>, DecodeRefusal>
     let Some(Payload::Delete(body)) = lone(chain) else {
         return Err(DecodeRefusal::Chain);
     };
-    deleted_in(body).map(Some).ok_or(DecodeRefusal::Payload)
+    named_in(Naming::Deleted, body)
+        .map(Some)
+        .ok_or(DecodeRefusal::Payload)
 }
 
 /// What a chain of payloads says in this exchange and direction.

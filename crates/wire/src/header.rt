@@ -8,6 +8,9 @@ ghost use Rattle.wire.specs.declared.message.DecodeRefusal.TheVariants as refusa
 use crate::message::DecodeRefusal;
 use nonce::side::Side;
 
+/// The version of IKE, 2.0.
+pub(crate) const VERSION: u8 = 0x20;
+
 /// What a header says, with the type of the first payload.
 #[derive(Clone, Copy)]
 pub(crate) struct Header {

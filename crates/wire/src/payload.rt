@@ -37,6 +37,13 @@ impl TryFrom<u8> for PayloadType {
     }
 }
 
+/// The number of a type; 0 where no payload is announced.
+pub(crate) fn announced(next: Option<PayloadType>) -> u8
+    ensures { result ≡ announced next }
+{
+    next.map_or(0, |kind| kind as u8)
+}
+
 /// A payload by its type. Each case borrows the octets behind the four opening ones from the datagram.
 #[derive(Clone, Copy)]
 pub enum Payload<'a> {
