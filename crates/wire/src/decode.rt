@@ -10,7 +10,7 @@ ghost use Rattle.wire.specs.Readings.{offer_read, request_read, response_read, b
 
 use crate::header::{Direction, Exchange, Flags, Header, VERSION};
 use crate::message::{Body, DecodeRefusal, Message, Request, Response};
-use crate::payload::{Chain, Offer, Payload, ends, lone, whole_offer, whole_rekey};
+use crate::payload::{Chain, Offer, Payload};
 use crate::table::{Naming, failure_in, named_in, sa_in, ts_body};
 use octets::{u32_at, u64_at};
 
@@ -65,11 +65,11 @@ fn read_offer(offer: Offer<'_>) -> Result<(u32, &[u8]), DecodeRefusal>
 fn create_request(chain: Chain<'_>) -> Result<Request<&[u8]>, DecodeRefusal>
     ensures { request_read result ≡ request_in chain.entry.kind chain.entry.octets.now }
 {
-    if let Some(offer) = whole_offer(chain) {
+    if let Some(offer) = chain.whole_offer() {
         let (spi, nonce) = read_offer(offer)?;
         return Ok(Request::Create { spi, nonce });
     }
-    let (notify, offer) = whole_rekey(chain).ok_or(DecodeRefusal::Chain)?;
+    let (notify, offer) = chain.whole_rekey().ok_or(DecodeRefusal::Chain)?;
     let old = named_in(Naming::Rekeyed, notify).ok_or(DecodeRefusal::Payload)?;
     let (spi, nonce) = read_offer(offer)?;
     Ok(Request::Rekey { old, spi, nonce })
@@ -80,11 +80,11 @@ fn create_request(chain: Chain<'_>) -> Result<Request<&[u8]>, DecodeRefusal>
 fn create_response(chain: Chain<'_>) -> Result<Response<&[u8]>, DecodeRefusal>
     ensures { response_read result ≡ response_in chain.entry.kind chain.entry.octets.now }
 {
-    if let Some(offer) = whole_offer(chain) {
+    if let Some(offer) = chain.whole_offer() {
         let (spi, nonce) = read_offer(offer)?;
         return Ok(Response::NewSa { spi, nonce });
     }
-    let Some(Payload::Notify(notify)) = lone(chain) else {
+    let Some(Payload::Notify(notify)) = chain.lone() else {
         return Err(DecodeRefusal::Chain);
     };
     let failure = failure_in(notify).ok_or(DecodeRefusal::Payload)?;
@@ -96,10 +96,10 @@ fn create_response(chain: Chain<'_>) -> Result<Response<&[u8]>, DecodeRefusal>
 fn informational(chain: Chain<'_>) -> Result<Option<u32>, DecodeRefusal>
     ensures { result ≡ informational_in chain.entry.kind chain.entry.octets.now }
 {
-    if ends(chain) {
+    if chain.ends() {
         return Ok(None);
     }
-    let Some(Payload::Delete(body)) = lone(chain) else {
+    let Some(Payload::Delete(body)) = chain.lone() else {
         return Err(DecodeRefusal::Chain);
     };
     named_in(Naming::Deleted, body)
@@ -107,15 +107,15 @@ fn informational(chain: Chain<'_>) -> Result<Option<u32>, DecodeRefusal>
         .ok_or(DecodeRefusal::Payload)
 }
 
-/// What a chain of payloads says in this exchange and direction.
-fn body_of(
-    exchange: Exchange,
-    direction: Direction,
-    chain: Chain<'_>,
-) -> Result<Body<&[u8]>, DecodeRefusal>
-    ensures { body_read result ≡ body_in exchange direction chain.entry.kind chain.entry.octets.now }
+/// What the payloads behind a header say.
+fn body_of(header: Header, octets: &[u8]) -> Result<Body<&[u8]>, DecodeRefusal>
+    ensures { body_read result ≡ body_in header.exchange header.flags.direction header.next octets.now }
 {
-    match (exchange, direction) {
+    let chain = Chain {
+        kind: header.next,
+        octets,
+    };
+    match (header.exchange, header.flags.direction) {
         (Exchange::CreateChildSa, Direction::Asking) => create_request(chain).map(Body::Request),
         (Exchange::CreateChildSa, Direction::Answering) => {
             create_response(chain).map(Body::Response)
@@ -143,11 +143,7 @@ pub fn decode(s: &[u8]) -> Result<Message<&[u8]>, DecodeRefusal>
         return Err(DecodeRefusal::Length);
     }
     let header = header_of(s)?;
-    let chain = Chain {
-        kind: header.next,
-        octets: s.split_at(28).1,
-    };
-    let body = body_of(header.exchange, header.flags.direction, chain)?;
+    let body = body_of(header, s.split_at(28).1)?;
     Ok(Message {
         initiator: header.initiator,
         responder: header.responder,

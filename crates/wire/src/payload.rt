@@ -72,104 +72,106 @@ pub(crate) struct Offer<'a> {
 }
 
 /// Takes the four opening octets of a payload, and then its body; the chain behind it is left.
+#[tactic(auto, using(crate::proofs::Openings::opened_cut), unfolding(crate::specs::Decoding::opened))]
 fn open(octets: &[u8]) -> Option<(&[u8], Chain<'_>)>
     ensures { option_map cut result ≡ opened octets.now }
 {
-    match octets {
-        [next, 0, high, low, behind @ ..] => {
-            let len = usize::from(*high) * 256 + usize::from(*low);
-            if len < 4 || len - 4 > behind.len() {
-                return None;
-            }
-            let (body, octets) = behind.split_at(len - 4);
-            let kind = *next;
-            Some((body, Chain { kind, octets }))
+    let [kind, 0, high, low, behind @ ..] = octets else {
+        return None;
+    };
+    let len = usize::from(u16::from_be_bytes([*high, *low])).checked_sub(4)?;
+    let (body, octets) = behind.split_at_checked(len)?;
+    Some((
+        body,
+        Chain {
+            kind: *kind,
+            octets,
+        },
+    ))
+}
+
+impl<'a> Payload<'a> {
+    /// The payload of this type and body.
+    fn new(kind: PayloadType, body: &'a [u8]) -> Payload<'a>
+        ensures kind { type_of result ≡ type_number kind }
+        ensures body { body_of result ≡ body.now }
+    {
+        match kind {
+            PayloadType::Sa => Payload::Sa(body),
+            PayloadType::Nonce => Payload::Nonce(body),
+            PayloadType::Notify => Payload::Notify(body),
+            PayloadType::Delete => Payload::Delete(body),
+            PayloadType::TsInitiator => Payload::TsInitiator(body),
+            PayloadType::TsResponder => Payload::TsResponder(body),
         }
-        // the octet that must be zero is not
-        [_, _, _, _, ..] => None,
-        // too short to open
-        _ => None,
     }
 }
 
-/// The payload of this type and body.
-fn of_type(kind: PayloadType, body: &[u8]) -> Payload<'_>
-    ensures kind { type_of result ≡ type_number kind }
-    ensures body { body_of result ≡ body.now }
-{
-    match kind {
-        PayloadType::Sa => Payload::Sa(body),
-        PayloadType::Nonce => Payload::Nonce(body),
-        PayloadType::Notify => Payload::Notify(body),
-        PayloadType::Delete => Payload::Delete(body),
-        PayloadType::TsInitiator => Payload::TsInitiator(body),
-        PayloadType::TsResponder => Payload::TsResponder(body),
+impl<'a> Chain<'a> {
+    /// The first payload, and the chain behind it.
+    fn first(self) -> Option<(Payload<'a>, Chain<'a>)>
+        ensures split { option_map split_off result ≡ (if known self.entry.kind then opened self.entry.octets.now else None) }
+        ensures kind { IfSome result (λ p. type_before p ≡ self.entry.kind) }
+    {
+        let kind = PayloadType::try_from(self.kind).ok()?;
+        let (body, behind) = open(self.octets)?;
+        Some((Payload::new(kind, body), behind))
     }
-}
 
-/// The first payload of a chain, and the chain behind it.
-fn first(chain: Chain<'_>) -> Option<(Payload<'_>, Chain<'_>)>
-    ensures split { option_map split_off result ≡ (if known chain.entry.kind then opened chain.entry.octets.now else None) }
-    ensures kind { IfSome result (λ p. type_before p ≡ chain.entry.kind) }
-{
-    let kind = PayloadType::try_from(chain.kind).ok()?;
-    let (body, behind) = open(chain.octets)?;
-    Some((of_type(kind, body), behind))
-}
+    /// Whether no payload is left.
+    pub(crate) fn ends(self) -> bool
+        ensures { result ≡ (self.entry.kind == 0 && length self.entry.octets.now == 0) }
+    {
+        self.kind == 0 && self.octets.is_empty()
+    }
 
-/// Whether no payload is left.
-pub(crate) fn ends(chain: Chain<'_>) -> bool
-    ensures { result ≡ (chain.entry.kind == 0 && length chain.entry.octets.now == 0) }
-{
-    chain.kind == 0 && chain.octets.is_empty()
-}
+    /// The bodies of the two traffic selectors that the chain consists of.
+    fn selectors(self) -> Option<(&'a [u8], &'a [u8])>
+        ensures { option_map selected result ≡ bodies (44 ∷ 45 ∷ []) self.entry.kind self.entry.octets.now }
+    {
+        let Some((Payload::TsInitiator(tsi), behind)) = self.first() else {
+            return None;
+        };
+        let Some((Payload::TsResponder(tsr), behind)) = behind.first() else {
+            return None;
+        };
+        behind.ends().then_some((tsi, tsr))
+    }
 
-/// The bodies of the two traffic selectors that a chain consists of.
-fn selectors(chain: Chain<'_>) -> Option<(&[u8], &[u8])>
-    ensures { option_map selected result ≡ bodies (44 ∷ 45 ∷ []) chain.entry.kind chain.entry.octets.now }
-{
-    let Some((Payload::TsInitiator(tsi), chain)) = first(chain) else {
-        return None;
-    };
-    let Some((Payload::TsResponder(tsr), chain)) = first(chain) else {
-        return None;
-    };
-    ends(chain).then_some((tsi, tsr))
-}
+    /// The bodies of the offer that the chain consists of.
+    pub(crate) fn whole_offer(self) -> Option<Offer<'a>>
+        ensures { option_map offered result ≡ bodies offer_order self.entry.kind self.entry.octets.now }
+    {
+        let Some((Payload::Sa(sa), behind)) = self.first() else {
+            return None;
+        };
+        let Some((Payload::Nonce(nonce), behind)) = behind.first() else {
+            return None;
+        };
+        let (tsi, tsr) = behind.selectors()?;
+        Some(Offer {
+            sa,
+            nonce,
+            tsi,
+            tsr,
+        })
+    }
 
-/// The bodies of the offer that a chain consists of.
-pub(crate) fn whole_offer(chain: Chain<'_>) -> Option<Offer<'_>>
-    ensures { option_map offered result ≡ bodies offer_order chain.entry.kind chain.entry.octets.now }
-{
-    let Some((Payload::Sa(sa), chain)) = first(chain) else {
-        return None;
-    };
-    let Some((Payload::Nonce(nonce), chain)) = first(chain) else {
-        return None;
-    };
-    let (tsi, tsr) = selectors(chain)?;
-    Some(Offer {
-        sa,
-        nonce,
-        tsi,
-        tsr,
-    })
-}
+    /// The bodies of the notification and the offer that the chain consists of.
+    pub(crate) fn whole_rekey(self) -> Option<(&'a [u8], Offer<'a>)>
+        ensures { option_map rekeyed result ≡ bodies rekey_order self.entry.kind self.entry.octets.now }
+    {
+        let Some((Payload::Notify(notify), behind)) = self.first() else {
+            return None;
+        };
+        Some((notify, behind.whole_offer()?))
+    }
 
-/// The bodies of the notification and the offer that a chain consists of.
-pub(crate) fn whole_rekey(chain: Chain<'_>) -> Option<(&[u8], Offer<'_>)>
-    ensures { option_map rekeyed result ≡ bodies rekey_order chain.entry.kind chain.entry.octets.now }
-{
-    let Some((Payload::Notify(notify), chain)) = first(chain) else {
-        return None;
-    };
-    Some((notify, whole_offer(chain)?))
-}
-
-/// The payload that a chain consists of.
-pub(crate) fn lone(chain: Chain<'_>) -> Option<Payload<'_>>
-    ensures { (t : ℕ) → known t ≡ true → lone_body t result ≡ bodies (t ∷ []) chain.entry.kind chain.entry.octets.now }
-{
-    let (payload, chain) = first(chain)?;
-    ends(chain).then_some(payload)
+    /// The payload that the chain consists of.
+    pub(crate) fn lone(self) -> Option<Payload<'a>>
+        ensures { (t : ℕ) → known t ≡ true → lone_body t result ≡ bodies (t ∷ []) self.entry.kind self.entry.octets.now }
+    {
+        let (payload, behind) = self.first()?;
+        behind.ends().then_some(payload)
+    }
 }
