@@ -3,8 +3,8 @@ ghost use Rattle.std.specs.Prelude.{◌≡◌, ◌≤◌, ◌++◌};
 ghost use Rattle.arrayvec.specs.ArrayVec.{array_vec_len};
 ghost use Rattle.nonce.specs.Nonces.{nonce_octets};
 ghost use Rattle.wire.specs.Encoding.{written, overwritten};
-ghost use Rattle.wire.specs.Exact.{ValidOffer, ValidRequest, ValidResponse, ValidBody, Valid};
-ghost use Rattle.wire.specs.Messages.{plain_body, plain, plain_request, plain_response, offer_parts, request_parts, response_parts, parts_of, first_type, announced, chain, exchange_number, exchange_of, direction_flag, response_flag, kinds, octets_of};
+ghost use Rattle.wire.specs.Exact.{ValidOffer, ValidBody, Valid};
+ghost use Rattle.wire.specs.Messages.{plain_body, plain, offer_parts, parts_of, first_type, announced, chain, exchange_number, exchange_of, direction_flag, response_flag, kinds, octets_of};
 
 use crate::header::{Direction, Exchange, Flags, VERSION};
 use crate::message::{Body, EncodeRefusal, Message, Request, Response};
@@ -30,55 +30,29 @@ fn push_offer(payloads: &mut Payloads, spi: u32, nonce: &Nonce)
     push_payload(payloads, None, &ts_body());
 }
 
-/// The payloads of a request.
-fn request_chain(request: &Request<Nonce>) -> Payloads
-    ensures octets { result.items ≡ chain (request_parts (plain_request nonce_octets request.now)) }
-    ensures valid { ValidRequest (plain_request nonce_octets request.now) }
+/// The payloads of a message.
+fn payloads_of(body: &Body<Nonce>) -> Payloads
+    ensures octets { result.items ≡ chain (parts_of (plain_body nonce_octets body.now)) }
+    ensures valid { ValidBody (plain_body nonce_octets body.now) }
 {
     let mut payloads = ArrayVec::new();
-    match request {
-        Request::Create { spi, nonce } => push_offer(&mut payloads, *spi, nonce),
-        Request::Rekey { old, spi, nonce } => {
+    match body {
+        Body::Request(Request::Create { spi, nonce })
+        | Body::Response(Response::NewSa { spi, nonce }) => push_offer(&mut payloads, *spi, nonce),
+        Body::Request(Request::Rekey { old, spi, nonce }) => {
             let rekeyed = naming_body(Naming::Rekeyed, *old);
             push_payload(&mut payloads, Some(PayloadType::Sa), &rekeyed);
             push_offer(&mut payloads, *spi, nonce);
         }
-        Request::Delete { spi } => {
-            push_payload(&mut payloads, None, &naming_body(Naming::Deleted, *spi));
-        }
-        Request::Empty => {}
-    }
-    payloads
-}
-
-/// The payloads of a response.
-fn response_chain(response: &Response<Nonce>) -> Payloads
-    ensures octets { result.items ≡ chain (response_parts (plain_response nonce_octets response.now)) }
-    ensures valid { ValidResponse (plain_response nonce_octets response.now) }
-{
-    let mut payloads = ArrayVec::new();
-    match response {
-        Response::NewSa { spi, nonce } => push_offer(&mut payloads, *spi, nonce),
-        Response::Failed(failure) => {
+        Body::Response(Response::Failed(failure)) => {
             push_payload(&mut payloads, None, failure_body(*failure).as_slice());
         }
-        Response::Delete { spi } => {
+        Body::Request(Request::Delete { spi }) | Body::Response(Response::Delete { spi }) => {
             push_payload(&mut payloads, None, &naming_body(Naming::Deleted, *spi));
         }
-        Response::Empty => {}
+        Body::Request(Request::Empty) | Body::Response(Response::Empty) => {}
     }
     payloads
-}
-
-/// The payloads of a message.
-fn chain_of(body: &Body<Nonce>) -> Payloads
-    ensures octets { result.items ≡ chain (parts_of (plain_body nonce_octets body.now)) }
-    ensures valid { ValidBody (plain_body nonce_octets body.now) }
-{
-    match body {
-        Body::Request(request) => request_chain(request),
-        Body::Response(response) => response_chain(response),
-    }
 }
 
 /// The type of the first payload of a message, if it has one.
@@ -142,7 +116,7 @@ fn text_of(message: &Message<Nonce>) -> ArrayVec<u8, 160>
     ensures octets { result.items ≡ octets_of (plain nonce_octets message.now) }
     ensures valid { Valid (plain nonce_octets message.now) }
 {
-    let payloads = chain_of(&message.body);
+    let payloads = payloads_of(&message.body);
     let mut text = ArrayVec::new();
     push(&mut text, &message.initiator.to_be_bytes());
     push(&mut text, &message.responder.to_be_bytes());
