@@ -18,10 +18,7 @@ use octets::{u32_at, u64_at};
 fn is_sized(s: &[u8]) -> bool
     ensures { result ≡ sized s.now }
 {
-    if s.len() < 28 || s.len() > 160 {
-        return false;
-    }
-    u32_at(s, 24).is_some_and(|len| len as usize == s.len())
+    (28..=160).contains(&s.len()) && u32_at(s, 24).is_some_and(|len| len as usize == s.len())
 }
 
 /// What the header of octets says that are long enough for one.
@@ -49,7 +46,7 @@ fn read_offer(offer: Offer<'_>) -> Result<(u32, &[u8]), DecodeRefusal>
     ensures { offer_read result ≡ offer_in (offered offer.entry) }
 {
     let spi = sa_in(offer.sa).ok_or(DecodeRefusal::Payload)?;
-    if offer.nonce.len() < 16 || offer.nonce.len() > 32 {
+    if !(16..=32).contains(&offer.nonce.len()) {
         return Err(DecodeRefusal::NonceLength);
     }
     let all = ts_body();
