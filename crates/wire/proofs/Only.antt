@@ -10,7 +10,7 @@ use Rattle.octets.proofs.Words.{be16_half, be32_word, be64_long}
 use Rattle.nonce.specs.Nonces.{nonce_long}
 use Rattle.wire.specs.Payloads.{sa_body, ts_body, rekey_body, failure_body, delete_body, carried, sa_in, rekeyed_in, deleted_in, not_found_in, failure_in}
 use Rattle.wire.specs.Messages.{Part, part, offer_parts, request_parts, response_parts, parts_of, first_type, chain, request_exchange, response_exchange, exchange_of, exchange_number, sender_flag, direction_flag, flags_octet, response_flag, octets_of}
-use Rattle.wire.specs.Decoding.{sized, exchange_in, flags, flags_in, header_from, header_in, opens, opened, Opened, taken, before, followed, bodies, offer_order, rekey_order, sa_then, offer_in, as_create, as_rekey, as_new, as_failed, rekey_from, create_or, failed_from, new_or, as_deleted, deleted_from, empty_or, informs_request, informs_response, asks, answers, request_in, response_in, informational_in, body_in, with_body, with_header, decoded}
+use Rattle.wire.specs.Decoding.{sized, exchange_in, flags, flags_in, header_from, header_in, opens, opened, Opened, taken, before, followed, bodies, offer_order, rekey_order, nonce_then, sa_then, offer_in, as_create, as_rekey, as_new, as_failed, rekey_from, create_or, failed_from, new_or, as_deleted, deleted_from, empty_or, informs_request, informs_response, asks, answers, request_in, response_in, informational_in, body_in, with_body, with_header, decoded}
 use Rattle.wire.specs.Exact.{Octets, Valid, ValidOffer, ValidRequest, ValidFailure, ValidResponse, ValidBody}
 use Rattle.wire.proofs.Carried.{same_equal}
 use Rattle.wire.specs.declared.message.Message.{Message}
@@ -33,6 +33,17 @@ use Rattle.wire.specs.declared.header.Direction.TheVariants.{Asking, Answering}
 use Rattle.nonce.specs.declared.side.Side.{Side}
 use Rattle.nonce.specs.declared.side.Side.TheVariants.{A, B}
 
+-- what a test let through, with nothing or a refusal in the place of the rest
+cond_given : {A : Type 0} (b : Bool) (o : Option A) (x : A) → cond b o None ≡ Some x → (b ≡ true) × (o ≡ Some x)
+cond_given true o x e = (refl, e)
+cond_given false o x e = cc
+
+cond_passed :
+    {A E : Type 0} (b : Bool) (r : Result A E) (refusal : E) (x : A) → cond b r (Err refusal) ≡ Ok x →
+    (b ≡ true) × (r ≡ Ok x)
+cond_passed true r f x e = (refl, e)
+cond_passed false r f x e = cc
+
 -- parts of octets are octets
 octets_drop : (n : ℕ) (s : List ℕ) → Octets s → Octets (drop n s)
 octets_drop n s o i = rw (get_or-drop n s i 0) (o (n + i))
@@ -50,21 +61,14 @@ long_fits : (s : List ℕ) (i : ℕ) → Octets s → long s i < 2 ^ 64
 long_fits s i o = omega (arith, o i, o (i + 1), o (i + 2), o (i + 3), o (i + 4), o (i + 5), o (i + 6), o (i + 7))
 
 -- a number that a body carries
-carried_by :
-    (table : ℕ → List ℕ) (i : ℕ) (s : List ℕ) (x : ℕ) (b : Bool) → bytes_eq s (table (word s i)) ≡ b →
-    cond b (Some (word s i)) None ≡ Some x → (s ≡ table x) × (x ≡ word s i)
-carried_by table i s x true t e =
-    let w : x ≡ word s i = cc in
-    (rw w (same_equal s (table (word s i)) t), w)
-carried_by table i s x false t e = cc
-
 carried_only :
     (table : ℕ → List ℕ) (i : ℕ) (s : List ℕ) (x : ℕ) → Octets s → carried table i s ≡ Some x →
     (s ≡ table x) × (x < 2 ^ 32)
 unfolding carried
 carried_only table i s x o e =
-    let r = carried_by table i s x (bytes_eq s (table (word s i))) refl e in
-    (r.0, omega (arith, r.1, word_fits s i o))
+    let r = cond_given (bytes_eq s (table (word s i))) (Some (word s i)) x e in
+    let w : x ≡ word s i = cc in
+    (rw w (same_equal s (table (word s i)) r.0), omega (arith, w, word_fits s i o))
 
 sa_only : (s : List ℕ) (x : ℕ) → Octets s → sa_in s ≡ Some x → (s ≡ sa_body x) × (x < 2 ^ 32)
 unfolding sa_in
@@ -162,24 +166,18 @@ opened_first s o t =
     in
     (whole, octets_take q (drop 4 s) (octets_drop 4 s o), octets_drop (half s 2) s o)
 
-opened_by :
-    (s : List ℕ) (p : Opened) (b : Bool) → Octets s → opens s ≡ b →
-    cond b (Some (record { body = take (half s 2 - 4) (drop 4 s); next = get_or s 0 0; rest = drop (half s 2) s })) None ≡ Some p →
-    First s p
-opened_by s p true o t e =
-    let z : (record { body = take (half s 2 - 4) (drop 4 s); next = get_or s 0 0; rest = drop (half s 2) s }) ≡ p = cc in
-    subst (λ x. First s x) z (opened_first s o t)
-opened_by s p false o t e = cc
-
 opened_only : (s : List ℕ) (p : Opened) → Octets s → opened s ≡ Some p → First s p
 unfolding opened
-opened_only s p o e = opened_by s p (opens s) o refl e
+opened_only s p o e =
+    let given : Opened = record { body = take (half s 2 - 4) (drop 4 s); next = get_or s 0 0; rest = drop (half s 2) s } in
+    let r = cond_given (opens s) (Some given) p e in
+    let z : given ≡ p = cc in
+    subst (λ x. First s x) z (opened_first s o r.0)
 
-taken_only :
-    (t k : ℕ) (s : List ℕ) (p : Opened) (b : Bool) → Octets s → eqb k t ≡ b → cond b (opened s) None ≡ Some p →
-    (k ≡ t) × First s p
-taken_only t k s p true o h e = (eqb-true k t h, opened_only s p o e)
-taken_only t k s p false o h e = cc
+taken_only : (t k : ℕ) (s : List ℕ) (p : Opened) → Octets s → taken t k s ≡ Some p → (k ≡ t) × First s p
+taken_only t k s p o e =
+    let r = cond_given (eqb k t) (opened s) p e in
+    (eqb-true k t r.0, opened_only s p o r.1)
 
 -- payloads of these types and bodies
 abbrev pub zipped : List ℕ → List (List ℕ) → List Part
@@ -196,14 +194,12 @@ abbrev Split : List ℕ → ℕ → List ℕ → List (List ℕ) → Type 0
 Split ts k s bs =
     (s ≡ chain (zipped ts bs)) × (k ≡ first_type (zipped ts bs)) × (length bs ≡ length ts) × Each bs
 
-end_only :
-    (k : ℕ) (s : List ℕ) (bs : List (List ℕ)) (b : Bool) → (eqb k 0 && eqb (length s) 0) ≡ b →
-    cond b (Some []) None ≡ Some bs → Split [] k s bs
-end_only k s [] true h e =
-    let a = and_parts _ _ h in
+end_only : (k : ℕ) (s : List ℕ) (bs : List (List ℕ)) → bodies [] k s ≡ Some bs → Split [] k s bs
+end_only k s [] e =
+    let r = cond_given (eqb k 0 && eqb (length s) 0) (Some []) [] e in
+    let a = and_parts _ _ r.0 in
     (nil_from_length s (eqb-true (length s) 0 a.1), eqb-true k 0 a.0, refl, tt)
-end_only k s (x ∷ bs) true h e = cc
-end_only k s bs false h e = cc
+end_only k s (x ∷ bs) e = let r = cond_given (eqb k 0 && eqb (length s) 0) (Some []) (x ∷ bs) e in cc
 
 step_only :
     (t k : ℕ) (ts s : List ℕ) (p : Opened) (b : List ℕ) (bs : List (List ℕ)) → (k ≡ t) × First s p → p.body ≡ b →
@@ -227,31 +223,29 @@ module _ (t k : ℕ) (ts s : List ℕ) (o : Octets s) where
         (bs : List (List ℕ)) (q : Option Opened) → taken t k s ≡ q →
         followed q (λ p. bodies ts p.next p.rest) ≡ Some bs → Split (t ∷ ts) k s bs
     followed_only bs (Some p) h e =
-        before_only p bs (bodies ts p.next p.rest) (taken_only t k s p (eqb k t) o refl h) refl e
+        before_only p bs (bodies ts p.next p.rest) (taken_only t k s p o h) refl e
     followed_only bs None h e = cc
 
 bodies_only :
     (ts : List ℕ) (k : ℕ) (s : List ℕ) (bs : List (List ℕ)) → Octets s → bodies ts k s ≡ Some bs → Split ts k s bs
-bodies_only [] k s bs o e = end_only k s bs (eqb k 0 && eqb (length s) 0) refl e
+bodies_only [] k s bs o e = end_only k s bs e
 bodies_only (t ∷ ts) k s bs o e = followed_only t k ts s o (bodies_only ts) bs (taken t k s) refl e
 
 -- an offer
 nonce_only :
-    (x y : ℕ) (a b c d n : List ℕ) (p q : Bool) → a ≡ sa_body x → x < 2 ^ 32 → nonce_long b ≡ p →
-    (bytes_eq c ts_body && bytes_eq d ts_body) ≡ q →
-    cond {A = Result (ℕ × List ℕ) DecodeRefusal} p (cond q (Ok (x, b)) (Err refusal.Payload)) (Err refusal.NonceLength) ≡ Ok (y, n) →
+    (x y : ℕ) (a b c d n : List ℕ) → a ≡ sa_body x → x < 2 ^ 32 → nonce_then x (a ∷ b ∷ c ∷ d ∷ []) ≡ Ok (y, n) →
     (zipped offer_order (a ∷ b ∷ c ∷ d ∷ []) ≡ offer_parts y n) × ValidOffer y n
-nonce_only x y a b c d n true true e f g h i =
+nonce_only x y a b c d n e f g =
+    let p = cond_passed (nonce_long b) _ refusal.NonceLength (y, n) g in
+    let q = cond_passed (bytes_eq c ts_body && bytes_eq d ts_body) (Ok (x, b)) refusal.Payload (y, n) p.1 in
     let w : ◌≡◌ {A = ℕ × List ℕ} (x, b) (y, n) = cc in
     let u : x ≡ y = ap (λ p. p.0) w in
     let v : b ≡ n = ap (λ p. p.1) w in
-    let l = and_parts _ _ g in
-    let m = and_parts _ _ h in
+    let l = and_parts _ _ p.0 in
+    let m = and_parts _ _ q.0 in
     let j = same_equal c ts_body m.0 in
     let k = same_equal d ts_body m.1 in
     (rw (← u, ← v, e, j, k), (rw (← u) f, rw (← v) (leb-true 16 (length b) l.0), rw (← v) (leb-true (length b) 32 l.1)))
-nonce_only x y a b c d n true false e f g h i = cc
-nonce_only x y a b c d n false q e f g h i = cc
 
 sa_then_only :
     (a b c d : List ℕ) (y : ℕ) (n : List ℕ) (q : Option ℕ) → Octets a → sa_in a ≡ q →
@@ -259,7 +253,7 @@ sa_then_only :
     (zipped offer_order (a ∷ b ∷ c ∷ d ∷ []) ≡ offer_parts y n) × ValidOffer y n
 sa_then_only a b c d y n (Some x) o h e =
     let r = sa_only a x o h in
-    nonce_only x y a b c d n (nonce_long b) (bytes_eq c ts_body && bytes_eq d ts_body) r.0 r.1 refl refl e
+    nonce_only x y a b c d n r.0 r.1 e
 sa_then_only a b c d y n None o h e = cc
 
 offer_only :
@@ -515,16 +509,13 @@ header_from_only s h (Some x) (Some f) v g j e =
 header_from_only s h (Some x) None v g j e = cc
 header_from_only s h None f v g j e = cc
 
-header_by :
-    (s : List ℕ) (h : Header) (b : Bool) → eqb (get_or s 17 0) 0x20 ≡ b →
-    cond b (header_from s (exchange_in (get_or s 18 0)) (flags_in (get_or s 19 0))) None ≡ Some h → Headed s h
-header_by s h true v e =
-    header_from_only s h (exchange_in (get_or s 18 0)) (flags_in (get_or s 19 0)) (eqb-true (get_or s 17 0) 0x20 v) refl refl e
-header_by s h false v e = cc
-
 header_only : (s : List ℕ) (h : Header) → header_in s ≡ Some h → Headed s h
 unfolding header_in
-header_only s h e = header_by s h (eqb (get_or s 17 0) 0x20) refl e
+header_only s h e =
+    let x = exchange_in (get_or s 18 0) in
+    let f = flags_in (get_or s 19 0) in
+    let r = cond_given (eqb (get_or s 17 0) 0x20) (header_from s x f) h e in
+    header_from_only s h x f (eqb-true (get_or s 17 0) 0x20 r.0) refl refl r.1
 
 -- octets as the numbers that they are
 module _ (s : List ℕ) (o : Octets s) (room : 28 ≤ length s) where
@@ -632,12 +623,8 @@ with_header_only s m (Some h) o t g e =
     (eqb-true (word s 24) (length s) b.1) (header_only s h g) refl e
 with_header_only s m None o t g e = cc
 
-decoded_by :
-    (s : List ℕ) (m : Message (List ℕ)) (b : Bool) → Octets s → sized s ≡ b →
-    cond b (with_header (header_in s) s) (Err refusal.Length) ≡ Ok m → (octets_of m ≡ s) × Valid m
-decoded_by s m true o t e = with_header_only s m (header_in s) o t refl e
-decoded_by s m false o t e = cc
-
 pub message_only : (s : List ℕ) (m : Message (List ℕ)) → Octets s → decoded s ≡ Ok m → (octets_of m ≡ s) × Valid m
 unfolding decoded
-message_only s m o e = decoded_by s m (sized s) o refl e
+message_only s m o e =
+    let r = cond_passed (sized s) (with_header (header_in s) s) refusal.Length m e in
+    with_header_only s m (header_in s) o r.0 refl r.1

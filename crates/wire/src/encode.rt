@@ -137,12 +137,11 @@ impl Message<Nonce> {
         ensures valid { Valid (plain nonce_octets self.now) }
     {
         let text = text_of(self);
-        let octets = text.as_slice();
-        let len = octets.len();
+        let len = text.len();
         if out.len() < len {
             return Err(EncodeRefusal::BufferTooShort);
         }
-        out[0..len].copy_from_slice(octets);
+        out[0..len].copy_from_slice(text.as_slice());
         Ok(len)
     }
 }
