@@ -13,12 +13,12 @@ pub same_equal : (xs ys : List ℕ) → bytes_eq xs ys ≡ true → xs ≡ ys
 same_equal xs ys e = (bytes_eq-Decides xs ys).0 e
 
 -- rows of different lengths are not the same
-pub shorter_differs : (xs ys : List ℕ) → length xs < length ys → bytes_eq xs ys ≡ false
+shorter_differs : (xs ys : List ℕ) → length xs < length ys → bytes_eq xs ys ≡ false
 shorter_differs xs ys l =
     ⊎_elim (λ t. absurd (omega (arith, ap length (same_equal xs ys t)))) (λ f. f) (cases_Bool (bytes_eq xs ys))
 
 -- a body that ends before the number carries none
-pub carried_short :
+carried_short :
     (table : ℕ → List ℕ) (s : List ℕ) (i : ℕ) → ((x : ℕ) → leb (i + 4) (length (table x)) ≡ true) →
     None ≡ within s i 4 (word s i) → None ≡ carried table i s
 unfolding carried
@@ -28,13 +28,6 @@ carried_short table s i long e =
     omega (arith, leb-true (i + 4) (length (table (word s i))) (long (word s i)))
     in
     sym (cond-false _ (Some (word s i)) None (shorter_differs s (table (word s i)) l))
-
--- a number that was read, and the table's body for it
-pub carried_read :
-    (table : ℕ → List ℕ) (s : List ℕ) (i x : ℕ) (b : List ℕ) (r : Option ℕ) →
-    Some x ≡ within s i 4 (word s i) → b ≡ table x → r ≡ cond (bytes_eq s b) (Some x) None → r ≡ carried table i s
-unfolding carried
-carried_read table s i x b r e h a = let k = (within_some s i 4 x (word s i) e).0 in a ∙ rw (h, k)
 
 then_some-cond : (b : Bool) (x : ℕ) → then_some b x ≡ cond b (Some x) None
 then_some-cond true x = refl
@@ -46,6 +39,8 @@ pub carried_kept :
     ((x : ℕ) → leb (i + 4) (length (table x)) ≡ true) → o ≡ within s i 4 (word s i) →
     ((x : ℕ) (b : Bool) → Answers x b → b ≡ bytes_eq s (table x)) →
     MatchOption o (r ≡ None) (λ x. (b : Bool) × Answers x b × (r ≡ then_some b x)) → r ≡ carried table i s
+unfolding carried
 carried_kept table s i None r Answers long e same h = h ∙ carried_short table s i long e
 carried_kept table s i (Some x) r Answers long e same (b, a, h) =
-    carried_read table s i x (table x) r e refl (h ∙ ap (λ y. then_some y x) (same x b a) ∙ then_some-cond _ x)
+    let k = (within_some s i 4 x (word s i) e).0 in
+    h ∙ then_some-cond b x ∙ rw (same x b a, k)

@@ -135,12 +135,6 @@ abbrev pub response_flag : Body (List ℕ) → ℕ
 response_flag (body.Request r) = 0x00
 response_flag (body.Response r) = 0x20
 
-abbrev pub request_kinds : Request (List ℕ) → ℕ × ℕ
-request_kinds r = (first_type (request_parts r), request_exchange r)
-
-abbrev pub response_kinds : Response (List ℕ) → ℕ × ℕ
-response_kinds r = (first_type (response_parts r), response_exchange r)
-
 -- the type of the first payload, the version, the exchange and the flags
 abbrev pub kinds : Side → Body (List ℕ) → List ℕ
 kinds s b = first_type (parts_of b) ∷ 0x20 ∷ exchange_of b ∷ (sender_flag s + response_flag b) ∷ []
