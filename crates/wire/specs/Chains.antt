@@ -54,9 +54,6 @@ known k = is_some (type_in k)
 abbrev pub offered : Offer → List (List ℕ)
 offered o = o.sa.now ∷ o.nonce.now ∷ o.tsi.now ∷ o.tsr.now ∷ []
 
-abbrev pub selected : Bor (List ℕ) × Bor (List ℕ) → List (List ℕ)
-selected p = p.0.now ∷ p.1.now ∷ []
-
 abbrev pub rekeyed : Bor (List ℕ) × Offer → List (List ℕ)
 rekeyed p = p.0.now ∷ offered p.1
 

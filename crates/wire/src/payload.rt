@@ -2,7 +2,7 @@
 ghost use Rattle.std.specs.Prelude.{◌≡◌, ℕ, true, [], ◌∷◌, ◌&&◌, length, IfSome, if◌then◌else◌, None, ◌==◌};
 ghost use Rattle.std.specs.Option.{option_map, ok_or};
 ghost use Rattle.wire.specs.Decoding.{opened, bodies, offer_order, rekey_order};
-ghost use Rattle.wire.specs.Chains.{cut, known, type_in, type_of, body_of, split_off, type_before, selected, offered, rekeyed, lone_body};
+ghost use Rattle.wire.specs.Chains.{cut, known, type_in, type_of, body_of, split_off, type_before, offered, rekeyed, lone_body};
 ghost use Rattle.wire.specs.Messages.{type_number, announced};
 ghost use Rattle.wire.specs.declared.message.DecodeRefusal.TheVariants as refusal;
 
@@ -125,19 +125,6 @@ impl<'a> Chain<'a> {
         self.kind == 0 && self.octets.is_empty()
     }
 
-    /// The bodies of the two traffic selectors that the chain consists of.
-    fn selectors(self) -> Option<(&'a [u8], &'a [u8])>
-        ensures { option_map selected result ≡ bodies (44 ∷ 45 ∷ []) self.entry.kind self.entry.octets.now }
-    {
-        let Some((Payload::TsInitiator(tsi), behind)) = self.first() else {
-            return None;
-        };
-        let Some((Payload::TsResponder(tsr), behind)) = behind.first() else {
-            return None;
-        };
-        behind.ends().then_some((tsi, tsr))
-    }
-
     /// The bodies of the offer that the chain consists of.
     pub(crate) fn whole_offer(self) -> Option<Offer<'a>>
         ensures { option_map offered result ≡ bodies offer_order self.entry.kind self.entry.octets.now }
@@ -148,8 +135,13 @@ impl<'a> Chain<'a> {
         let Some((Payload::Nonce(nonce), behind)) = behind.first() else {
             return None;
         };
-        let (tsi, tsr) = behind.selectors()?;
-        Some(Offer {
+        let Some((Payload::TsInitiator(tsi), behind)) = behind.first() else {
+            return None;
+        };
+        let Some((Payload::TsResponder(tsr), behind)) = behind.first() else {
+            return None;
+        };
+        behind.ends().then_some(Offer {
             sa,
             nonce,
             tsi,

@@ -43,6 +43,7 @@ pub(crate) enum Naming {
 }
 
 /// The body of a payload that names an SPI: ESP, SPIs of 4 octets, the number, the SPI.
+#[tactic(auto, using(crate::proofs::Namings::naming_written))]
 pub(crate) fn naming_body(naming: Naming, spi: u32) -> [u8; 8]
     ensures { result ≡ naming_body naming spi }
 {
