@@ -1,5 +1,5 @@
 -- Whatever is read as a message has exactly the octets of that message.
-use Rattle.std.proofs.Common.{◌≡◌, ℕ, suc, ◌+◌, ◌-◌, ◌^◌, ◌<◌, ◌≤◌, Bool, true, false, cond, ◌&&◌, eqb, List, [], ◌∷◌, ◌++◌, length, get_or, take, drop, Some, None, Ok, Err, Option, Result, sym, refl, ap, ◌∙◌, subst, ⊎_elim, arith, length-drop, length-take}
+use Rattle.std.proofs.Common.{◌≡◌, ℕ, suc, ◌+◌, ◌-◌, ◌^◌, ◌<◌, ◌≤◌, Bool, true, false, cond, ◌&&◌, eqb, List, [], ◌∷◌, ◌++◌, length, get_or, take, drop, Some, None, Ok, Err, Option, Result, sym, refl, ap, ◌∙◌, subst, ◌⊎◌, inl, inr, ⊎_elim, arith, length-drop, length-take}
 use Rattle.std.proofs.lemmas.List.{take-append-drop, drop-drop, drop_more, get_or-drop, get_or-take, get_or_past, length-take-le, nil_from_length}
 use Rattle.std.proofs.lemmas.Bool.{leb-true, eqb-true, and_parts, cases_lt}
 use Rattle.std.proofs.lemmas.Bool.Decides.{nat_tests}
@@ -44,6 +44,12 @@ cond_passed :
 cond_passed true r f x e = (refl, e)
 cond_passed false r f x e = cc
 
+cond_either :
+    {A : Type 0} (b : Bool) (x : A) (o : Option A) (y : A) → cond b (Some x) o ≡ Some y →
+    ((b ≡ true) × (x ≡ y)) ⊎ (o ≡ Some y)
+cond_either true x o y e = inl (refl, cc)
+cond_either false x o y e = inr e
+
 -- parts of octets are octets
 octets_drop : (n : ℕ) (s : List ℕ) → Octets s → Octets (drop n s)
 octets_drop n s o i = rw (get_or-drop n s i 0) (o (n + i))
@@ -87,42 +93,33 @@ not_found_only :
 unfolding not_found_in
 not_found_only s x o e = carried_only (λ y. failure_body (ChildSaNotFound y)) 4 s x o e
 
-failure_some :
+-- a failure that a body is read as
+abbrev Failing : List ℕ → Failure → Type 0
+Failing s e = (s ≡ failure_body e) × ValidFailure e
+
+not_found_failing :
     (s : List ℕ) (e : Failure) (o : Option ℕ) → Octets s → not_found_in s ≡ o → option_map (λ x. ChildSaNotFound x) o ≡ Some e →
-    (s ≡ failure_body e) × ValidFailure e
-failure_some s (ChildSaNotFound y) (Some x) o h e =
-    let r = not_found_only s x o h in
-    let z : x ≡ y = cc in
-    (rw (← z) r.0, rw (← z) r.1)
-failure_some s NoProposalChosen (Some x) o h e = cc
-failure_some s NoAdditionalSas (Some x) o h e = cc
-failure_some s TemporaryFailure (Some x) o h e = cc
-failure_some s f None o h e = cc
+    Failing s e
+not_found_failing s e (Some x) o h q =
+    let z : ChildSaNotFound x ≡ e = cc in
+    subst (λ f. Failing s f) z (not_found_only s x o h)
+not_found_failing s e None o h q = cc
 
-failure_by :
-    (s : List ℕ) (e : Failure) (a b c : Bool) → Octets s → bytes_eq s (failure_body NoProposalChosen) ≡ a →
-    bytes_eq s (failure_body NoAdditionalSas) ≡ b → bytes_eq s (failure_body TemporaryFailure) ≡ c →
-    cond a (Some NoProposalChosen)
-    (cond b (Some NoAdditionalSas) (cond c (Some TemporaryFailure) (option_map (λ x. ChildSaNotFound x) (not_found_in s))))
-    ≡ Some e →
-    (s ≡ failure_body e) × ValidFailure e
-failure_by s e true b c o p q r h =
-    let z : NoProposalChosen ≡ e = cc in
-    subst (λ x. (s ≡ failure_body x) × ValidFailure x) z (same_equal s _ p, tt)
-failure_by s e false true c o p q r h =
-    let z : NoAdditionalSas ≡ e = cc in
-    subst (λ x. (s ≡ failure_body x) × ValidFailure x) z (same_equal s _ q, tt)
-failure_by s e false false true o p q r h =
-    let z : TemporaryFailure ≡ e = cc in
-    subst (λ x. (s ≡ failure_body x) × ValidFailure x) z (same_equal s _ r, tt)
-failure_by s e false false false o p q r h = failure_some s e (not_found_in s) o refl h
+bare_failing :
+    (s : List ℕ) (e bare : Failure) → ValidFailure bare → (bytes_eq s (failure_body bare) ≡ true) × (bare ≡ e) → Failing s e
+bare_failing s e bare v (t, z) = subst (λ f. Failing s f) z (same_equal s _ t, v)
 
-failure_only :
-    (s : List ℕ) (e : Failure) → Octets s → failure_in s ≡ Some e → (s ≡ failure_body e) × ValidFailure e
+failure_only : (s : List ℕ) (e : Failure) → Octets s → failure_in s ≡ Some e → Failing s e
 unfolding failure_in
 failure_only s e o h =
-    failure_by s e (bytes_eq s (failure_body NoProposalChosen)) (bytes_eq s (failure_body NoAdditionalSas))
-    (bytes_eq s (failure_body TemporaryFailure)) o refl refl refl h
+    ⊎_elim (bare_failing s e NoProposalChosen tt)
+    (λ i.
+    ⊎_elim (bare_failing s e NoAdditionalSas tt)
+    (λ j.
+    ⊎_elim (bare_failing s e TemporaryFailure tt) (λ k. not_found_failing s e (not_found_in s) o refl k)
+    (cond_either (bytes_eq s (failure_body TemporaryFailure)) TemporaryFailure _ e j))
+    (cond_either (bytes_eq s (failure_body NoAdditionalSas)) NoAdditionalSas _ e i))
+    (cond_either (bytes_eq s (failure_body NoProposalChosen)) NoProposalChosen _ e h)
 
 -- the first payload of a chain
 abbrev First : List ℕ → Opened → Type 0

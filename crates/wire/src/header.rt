@@ -16,6 +16,7 @@ pub(crate) const VERSION: u8 = 0x20;
 pub(crate) struct Header {
     pub initiator: u64,
     pub responder: u64,
+    // as it was announced: any octet, and not only one that names a type
     pub next: u8,
     pub exchange: Exchange,
     pub flags: Flags,

@@ -58,6 +58,7 @@ pub enum Payload<'a> {
 /// What is left of a chain: the type that is announced for its first payload, and its octets.
 #[derive(Clone, Copy)]
 pub(crate) struct Chain<'a> {
+    // as it was announced: any octet, and not only one that names a type
     pub kind: u8,
     pub octets: &'a [u8],
 }
@@ -129,6 +130,7 @@ impl<'a> Chain<'a> {
     pub(crate) fn whole_offer(self) -> Option<Offer<'a>>
         ensures { option_map offered result ≡ bodies offer_order self.entry.kind self.entry.octets.now }
     {
+        // the patterns ask for the variants too, which `?` would not
         let Some((Payload::Sa(sa), behind)) = self.first() else {
             return None;
         };
