@@ -9,7 +9,7 @@ use Rattle.octets.proofs.Words.{half_be16, word_be32, long_be64}
 use Rattle.nonce.specs.Nonces.{nonce_long}
 use Rattle.wire.specs.Payloads.{sa_body, ts_body, rekey_body, failure_body, delete_body, carried, sa_in, rekeyed_in, deleted_in, not_found_in, failure_in}
 use Rattle.wire.specs.Messages.{Part, part, offer_parts, parts_of, first_type, chain, exchange_of, sender_flag, response_flag, octets_of}
-use Rattle.wire.specs.Decoding.{sized, exchange_in, flags_in, header_in, opened, bodies, offer_in, request_in, response_in, informational_in, body_in, decoded}
+use Rattle.wire.specs.Decoding.{sized, exchange_in, flags, flags_in, header_in, opened, bodies, offer_in, request_in, response_in, informational_in, body_in, decoded}
 use Rattle.wire.specs.Exact.{Valid, ValidOffer, ValidRequest, ValidFailure, ValidResponse, ValidBody}
 use Rattle.wire.proofs.Openings.{opened_cut}
 use Rattle.wire.specs.declared.message.Message.{Message}
@@ -180,7 +180,7 @@ exchange_back (body.Response (response.Failed e)) = refl
 exchange_back (body.Response (response.Delete x)) = refl
 exchange_back (body.Response response.Empty) = refl
 
-flags_back : (s : Side) (b : Body (List ℕ)) → flags_in (sender_flag s + response_flag b) ≡ Some (s, direction_of b)
+flags_back : (s : Side) (b : Body (List ℕ)) → flags_in (sender_flag s + response_flag b) ≡ Some (flags s (direction_of b))
 flags_back A (body.Request r) = refl
 flags_back B (body.Request r) = refl
 flags_back A (body.Response r) = refl
@@ -192,8 +192,7 @@ header_for m = record {
   responder = m.responder;
   next = first_type (parts_of m.body);
   exchange = exchange_kind m.body;
-  sender = m.sender;
-  direction = direction_of m.body;
+  flags = flags m.sender (direction_of m.body);
   id = m.id;
 }
 

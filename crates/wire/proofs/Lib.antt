@@ -1,9 +1,7 @@
 pub mod Back
 pub mod Carried
 pub mod Exactly
-pub mod Failures
+pub mod Namings
 pub mod Only
 pub mod Openings
-pub mod Pushes
-pub mod Writings
 pub mod Worked

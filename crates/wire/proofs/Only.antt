@@ -1,5 +1,5 @@
 -- Whatever is read as a message has exactly the octets of that message.
-use Rattle.std.proofs.Common.{◌≡◌, ℕ, suc, ◌+◌, ◌-◌, ◌^◌, ◌<◌, ◌≤◌, Bool, true, false, cond, ◌&&◌, eqb, List, [], ◌∷◌, ◌++◌, length, get_or, take, drop, Some, None, Ok, Err, Option, Result, sym, refl, ap, ◌∙◌, subst, ⊎_elim, arith, length-drop, length-take}
+use Rattle.std.proofs.Common.{◌≡◌, ℕ, suc, ◌+◌, ◌-◌, ◌^◌, ◌<◌, ◌≤◌, Bool, true, false, cond, ◌&&◌, eqb, List, [], ◌∷◌, ◌++◌, length, get_or, take, drop, Some, None, Ok, Err, Option, Result, sym, refl, ap, ◌∙◌, subst, ◌⊎◌, inl, inr, ⊎_elim, arith, length-drop, length-take}
 use Rattle.std.proofs.lemmas.List.{take-append-drop, drop-drop, drop_more, get_or-drop, get_or-take, get_or_past, length-take-le, nil_from_length}
 use Rattle.std.proofs.lemmas.Bool.{leb-true, eqb-true, and_parts, cases_lt}
 use Rattle.std.proofs.lemmas.Bool.Decides.{nat_tests}
@@ -9,8 +9,8 @@ use Rattle.octets.specs.Numbers.{be16, be32, be64, half, word, long}
 use Rattle.octets.proofs.Words.{be16_half, be32_word, be64_long}
 use Rattle.nonce.specs.Nonces.{nonce_long}
 use Rattle.wire.specs.Payloads.{sa_body, ts_body, rekey_body, failure_body, delete_body, carried, sa_in, rekeyed_in, deleted_in, not_found_in, failure_in}
-use Rattle.wire.specs.Messages.{Part, part, offer_parts, request_parts, response_parts, parts_of, first_type, chain, request_exchange, response_exchange, exchange_of, sender_flag, response_flag, octets_of}
-use Rattle.wire.specs.Decoding.{sized, exchange_in, flags_in, header_from, header_in, opens, opened, Opened, taken, before, followed, bodies, offer_order, rekey_order, sa_then, offer_in, as_create, as_rekey, as_new, as_failed, rekey_from, create_or, failed_from, new_or, as_deleted, deleted_from, empty_or, informs_request, informs_response, asks, answers, request_in, response_in, informational_in, body_in, with_body, with_header, decoded}
+use Rattle.wire.specs.Messages.{Part, part, offer_parts, request_parts, response_parts, parts_of, first_type, chain, request_exchange, response_exchange, exchange_of, exchange_number, sender_flag, direction_flag, flags_octet, response_flag, octets_of}
+use Rattle.wire.specs.Decoding.{sized, exchange_in, flags, flags_in, header_from, header_in, opens, opened, Opened, taken, before, followed, bodies, offer_order, rekey_order, nonce_then, sa_then, offer_in, as_create, as_rekey, as_new, as_failed, rekey_from, create_or, failed_from, new_or, as_deleted, deleted_from, empty_or, informs_request, informs_response, asks, answers, request_in, response_in, informational_in, body_in, with_body, with_header, decoded}
 use Rattle.wire.specs.Exact.{Octets, Valid, ValidOffer, ValidRequest, ValidFailure, ValidResponse, ValidBody}
 use Rattle.wire.proofs.Carried.{same_equal}
 use Rattle.wire.specs.declared.message.Message.{Message}
@@ -27,10 +27,28 @@ use Rattle.wire.specs.declared.message.DecodeRefusal.TheVariants as refusal
 use Rattle.wire.specs.declared.header.Header.{Header}
 use Rattle.wire.specs.declared.header.Exchange.{Exchange}
 use Rattle.wire.specs.declared.header.Exchange.TheVariants.{CreateChildSa, Informational}
+use Rattle.wire.specs.declared.header.Flags.{Flags}
 use Rattle.wire.specs.declared.header.Direction.{Direction}
 use Rattle.wire.specs.declared.header.Direction.TheVariants.{Asking, Answering}
 use Rattle.nonce.specs.declared.side.Side.{Side}
 use Rattle.nonce.specs.declared.side.Side.TheVariants.{A, B}
+
+-- what a test let through, with nothing or a refusal in the place of the rest
+cond_given : {A : Type 0} (b : Bool) (o : Option A) (x : A) → cond b o None ≡ Some x → (b ≡ true) × (o ≡ Some x)
+cond_given true o x e = (refl, e)
+cond_given false o x e = cc
+
+cond_passed :
+    {A E : Type 0} (b : Bool) (r : Result A E) (refusal : E) (x : A) → cond b r (Err refusal) ≡ Ok x →
+    (b ≡ true) × (r ≡ Ok x)
+cond_passed true r f x e = (refl, e)
+cond_passed false r f x e = cc
+
+cond_either :
+    {A : Type 0} (b : Bool) (x : A) (o : Option A) (y : A) → cond b (Some x) o ≡ Some y →
+    ((b ≡ true) × (x ≡ y)) ⊎ (o ≡ Some y)
+cond_either true x o y e = inl (refl, cc)
+cond_either false x o y e = inr e
 
 -- parts of octets are octets
 octets_drop : (n : ℕ) (s : List ℕ) → Octets s → Octets (drop n s)
@@ -49,21 +67,14 @@ long_fits : (s : List ℕ) (i : ℕ) → Octets s → long s i < 2 ^ 64
 long_fits s i o = omega (arith, o i, o (i + 1), o (i + 2), o (i + 3), o (i + 4), o (i + 5), o (i + 6), o (i + 7))
 
 -- a number that a body carries
-carried_by :
-    (table : ℕ → List ℕ) (i : ℕ) (s : List ℕ) (x : ℕ) (b : Bool) → bytes_eq s (table (word s i)) ≡ b →
-    cond b (Some (word s i)) None ≡ Some x → (s ≡ table x) × (x ≡ word s i)
-carried_by table i s x true t e =
-    let w : x ≡ word s i = cc in
-    (rw w (same_equal s (table (word s i)) t), w)
-carried_by table i s x false t e = let z : ◌≡◌ {A = ℕ} 0 1 = cc in absurd (omega arith)
-
 carried_only :
     (table : ℕ → List ℕ) (i : ℕ) (s : List ℕ) (x : ℕ) → Octets s → carried table i s ≡ Some x →
     (s ≡ table x) × (x < 2 ^ 32)
 unfolding carried
 carried_only table i s x o e =
-    let r = carried_by table i s x (bytes_eq s (table (word s i))) refl e in
-    (r.0, omega (arith, r.1, word_fits s i o))
+    let r = cond_given (bytes_eq s (table (word s i))) (Some (word s i)) x e in
+    let w : x ≡ word s i = cc in
+    (rw w (same_equal s (table (word s i)) r.0), omega (arith, w, word_fits s i o))
 
 sa_only : (s : List ℕ) (x : ℕ) → Octets s → sa_in s ≡ Some x → (s ≡ sa_body x) × (x < 2 ^ 32)
 unfolding sa_in
@@ -82,42 +93,33 @@ not_found_only :
 unfolding not_found_in
 not_found_only s x o e = carried_only (λ y. failure_body (ChildSaNotFound y)) 4 s x o e
 
-failure_some :
+-- a failure that a body is read as
+abbrev Failing : List ℕ → Failure → Type 0
+Failing s e = (s ≡ failure_body e) × ValidFailure e
+
+not_found_failing :
     (s : List ℕ) (e : Failure) (o : Option ℕ) → Octets s → not_found_in s ≡ o → option_map (λ x. ChildSaNotFound x) o ≡ Some e →
-    (s ≡ failure_body e) × ValidFailure e
-failure_some s (ChildSaNotFound y) (Some x) o h e =
-    let r = not_found_only s x o h in
-    let z : x ≡ y = cc in
-    (rw (← z) r.0, rw (← z) r.1)
-failure_some s NoProposalChosen (Some x) o h e = let z : ◌≡◌ {A = ℕ} 0 1 = cc in absurd (omega arith)
-failure_some s NoAdditionalSas (Some x) o h e = let z : ◌≡◌ {A = ℕ} 0 1 = cc in absurd (omega arith)
-failure_some s TemporaryFailure (Some x) o h e = let z : ◌≡◌ {A = ℕ} 0 1 = cc in absurd (omega arith)
-failure_some s f None o h e = let z : ◌≡◌ {A = ℕ} 0 1 = cc in absurd (omega arith)
+    Failing s e
+not_found_failing s e (Some x) o h q =
+    let z : ChildSaNotFound x ≡ e = cc in
+    subst (λ f. Failing s f) z (not_found_only s x o h)
+not_found_failing s e None o h q = cc
 
-failure_by :
-    (s : List ℕ) (e : Failure) (a b c : Bool) → Octets s → bytes_eq s (failure_body NoProposalChosen) ≡ a →
-    bytes_eq s (failure_body NoAdditionalSas) ≡ b → bytes_eq s (failure_body TemporaryFailure) ≡ c →
-    cond a (Some NoProposalChosen)
-    (cond b (Some NoAdditionalSas) (cond c (Some TemporaryFailure) (option_map (λ x. ChildSaNotFound x) (not_found_in s))))
-    ≡ Some e →
-    (s ≡ failure_body e) × ValidFailure e
-failure_by s e true b c o p q r h =
-    let z : NoProposalChosen ≡ e = cc in
-    subst (λ x. (s ≡ failure_body x) × ValidFailure x) z (same_equal s _ p, tt)
-failure_by s e false true c o p q r h =
-    let z : NoAdditionalSas ≡ e = cc in
-    subst (λ x. (s ≡ failure_body x) × ValidFailure x) z (same_equal s _ q, tt)
-failure_by s e false false true o p q r h =
-    let z : TemporaryFailure ≡ e = cc in
-    subst (λ x. (s ≡ failure_body x) × ValidFailure x) z (same_equal s _ r, tt)
-failure_by s e false false false o p q r h = failure_some s e (not_found_in s) o refl h
+bare_failing :
+    (s : List ℕ) (e bare : Failure) → ValidFailure bare → (bytes_eq s (failure_body bare) ≡ true) × (bare ≡ e) → Failing s e
+bare_failing s e bare v (t, z) = subst (λ f. Failing s f) z (same_equal s _ t, v)
 
-failure_only :
-    (s : List ℕ) (e : Failure) → Octets s → failure_in s ≡ Some e → (s ≡ failure_body e) × ValidFailure e
+failure_only : (s : List ℕ) (e : Failure) → Octets s → failure_in s ≡ Some e → Failing s e
 unfolding failure_in
 failure_only s e o h =
-    failure_by s e (bytes_eq s (failure_body NoProposalChosen)) (bytes_eq s (failure_body NoAdditionalSas))
-    (bytes_eq s (failure_body TemporaryFailure)) o refl refl refl h
+    ⊎_elim (bare_failing s e NoProposalChosen tt)
+    (λ i.
+    ⊎_elim (bare_failing s e NoAdditionalSas tt)
+    (λ j.
+    ⊎_elim (bare_failing s e TemporaryFailure tt) (λ k. not_found_failing s e (not_found_in s) o refl k)
+    (cond_either (bytes_eq s (failure_body TemporaryFailure)) TemporaryFailure _ e j))
+    (cond_either (bytes_eq s (failure_body NoAdditionalSas)) NoAdditionalSas _ e i))
+    (cond_either (bytes_eq s (failure_body NoProposalChosen)) NoProposalChosen _ e h)
 
 -- the first payload of a chain
 abbrev First : List ℕ → Opened → Type 0
@@ -161,24 +163,18 @@ opened_first s o t =
     in
     (whole, octets_take q (drop 4 s) (octets_drop 4 s o), octets_drop (half s 2) s o)
 
-opened_by :
-    (s : List ℕ) (p : Opened) (b : Bool) → Octets s → opens s ≡ b →
-    cond b (Some (record { body = take (half s 2 - 4) (drop 4 s); next = get_or s 0 0; rest = drop (half s 2) s })) None ≡ Some p →
-    First s p
-opened_by s p true o t e =
-    let z : (record { body = take (half s 2 - 4) (drop 4 s); next = get_or s 0 0; rest = drop (half s 2) s }) ≡ p = cc in
-    subst (λ x. First s x) z (opened_first s o t)
-opened_by s p false o t e = let z : ◌≡◌ {A = ℕ} 0 1 = cc in absurd (omega arith)
-
 opened_only : (s : List ℕ) (p : Opened) → Octets s → opened s ≡ Some p → First s p
 unfolding opened
-opened_only s p o e = opened_by s p (opens s) o refl e
+opened_only s p o e =
+    let given : Opened = record { body = take (half s 2 - 4) (drop 4 s); next = get_or s 0 0; rest = drop (half s 2) s } in
+    let r = cond_given (opens s) (Some given) p e in
+    let z : given ≡ p = cc in
+    subst (λ x. First s x) z (opened_first s o r.0)
 
-taken_only :
-    (t k : ℕ) (s : List ℕ) (p : Opened) (b : Bool) → Octets s → eqb k t ≡ b → cond b (opened s) None ≡ Some p →
-    (k ≡ t) × First s p
-taken_only t k s p true o h e = (eqb-true k t h, opened_only s p o e)
-taken_only t k s p false o h e = let z : ◌≡◌ {A = ℕ} 0 1 = cc in absurd (omega arith)
+taken_only : (t k : ℕ) (s : List ℕ) (p : Opened) → Octets s → taken t k s ≡ Some p → (k ≡ t) × First s p
+taken_only t k s p o e =
+    let r = cond_given (eqb k t) (opened s) p e in
+    (eqb-true k t r.0, opened_only s p o r.1)
 
 -- payloads of these types and bodies
 abbrev pub zipped : List ℕ → List (List ℕ) → List Part
@@ -195,14 +191,12 @@ abbrev Split : List ℕ → ℕ → List ℕ → List (List ℕ) → Type 0
 Split ts k s bs =
     (s ≡ chain (zipped ts bs)) × (k ≡ first_type (zipped ts bs)) × (length bs ≡ length ts) × Each bs
 
-end_only :
-    (k : ℕ) (s : List ℕ) (bs : List (List ℕ)) (b : Bool) → (eqb k 0 && eqb (length s) 0) ≡ b →
-    cond b (Some []) None ≡ Some bs → Split [] k s bs
-end_only k s [] true h e =
-    let a = and_parts _ _ h in
+end_only : (k : ℕ) (s : List ℕ) (bs : List (List ℕ)) → bodies [] k s ≡ Some bs → Split [] k s bs
+end_only k s [] e =
+    let r = cond_given (eqb k 0 && eqb (length s) 0) (Some []) [] e in
+    let a = and_parts _ _ r.0 in
     (nil_from_length s (eqb-true (length s) 0 a.1), eqb-true k 0 a.0, refl, tt)
-end_only k s (x ∷ bs) true h e = let z : ◌≡◌ {A = ℕ} 0 1 = cc in absurd (omega arith)
-end_only k s bs false h e = let z : ◌≡◌ {A = ℕ} 0 1 = cc in absurd (omega arith)
+end_only k s (x ∷ bs) e = let r = cond_given (eqb k 0 && eqb (length s) 0) (Some []) (x ∷ bs) e in cc
 
 step_only :
     (t k : ℕ) (ts s : List ℕ) (p : Opened) (b : List ℕ) (bs : List (List ℕ)) → (k ≡ t) × First s p → p.body ≡ b →
@@ -219,38 +213,36 @@ module _ (t k : ℕ) (ts s : List ℕ) (o : Octets s) where
         let j : p.body ≡ b = cc in
         let m : cs ≡ bs = cc in
         step_only t k ts s p b bs f j (again p.next p.rest bs f.1.2 (h ∙ ap (λ x. Some x) m))
-    before_only p [] (Some cs) f h e = let z : ◌≡◌ {A = ℕ} 0 1 = cc in absurd (omega arith)
-    before_only p bs None f h e = let z : ◌≡◌ {A = ℕ} 0 1 = cc in absurd (omega arith)
+    before_only p [] (Some cs) f h e = cc
+    before_only p bs None f h e = cc
 
     followed_only :
         (bs : List (List ℕ)) (q : Option Opened) → taken t k s ≡ q →
         followed q (λ p. bodies ts p.next p.rest) ≡ Some bs → Split (t ∷ ts) k s bs
     followed_only bs (Some p) h e =
-        before_only p bs (bodies ts p.next p.rest) (taken_only t k s p (eqb k t) o refl h) refl e
-    followed_only bs None h e = let z : ◌≡◌ {A = ℕ} 0 1 = cc in absurd (omega arith)
+        before_only p bs (bodies ts p.next p.rest) (taken_only t k s p o h) refl e
+    followed_only bs None h e = cc
 
 bodies_only :
     (ts : List ℕ) (k : ℕ) (s : List ℕ) (bs : List (List ℕ)) → Octets s → bodies ts k s ≡ Some bs → Split ts k s bs
-bodies_only [] k s bs o e = end_only k s bs (eqb k 0 && eqb (length s) 0) refl e
+bodies_only [] k s bs o e = end_only k s bs e
 bodies_only (t ∷ ts) k s bs o e = followed_only t k ts s o (bodies_only ts) bs (taken t k s) refl e
 
 -- an offer
 nonce_only :
-    (x y : ℕ) (a b c d n : List ℕ) (p q : Bool) → a ≡ sa_body x → x < 2 ^ 32 → nonce_long b ≡ p →
-    (bytes_eq c ts_body && bytes_eq d ts_body) ≡ q →
-    cond {A = Result (ℕ × List ℕ) DecodeRefusal} p (cond q (Ok (x, b)) (Err refusal.Payload)) (Err refusal.NonceLength) ≡ Ok (y, n) →
+    (x y : ℕ) (a b c d n : List ℕ) → a ≡ sa_body x → x < 2 ^ 32 → nonce_then x (a ∷ b ∷ c ∷ d ∷ []) ≡ Ok (y, n) →
     (zipped offer_order (a ∷ b ∷ c ∷ d ∷ []) ≡ offer_parts y n) × ValidOffer y n
-nonce_only x y a b c d n true true e f g h i =
+nonce_only x y a b c d n e f g =
+    let p = cond_passed (nonce_long b) _ refusal.NonceLength (y, n) g in
+    let q = cond_passed (bytes_eq c ts_body && bytes_eq d ts_body) (Ok (x, b)) refusal.Payload (y, n) p.1 in
     let w : ◌≡◌ {A = ℕ × List ℕ} (x, b) (y, n) = cc in
     let u : x ≡ y = ap (λ p. p.0) w in
     let v : b ≡ n = ap (λ p. p.1) w in
-    let l = and_parts _ _ g in
-    let m = and_parts _ _ h in
+    let l = and_parts _ _ p.0 in
+    let m = and_parts _ _ q.0 in
     let j = same_equal c ts_body m.0 in
     let k = same_equal d ts_body m.1 in
     (rw (← u, ← v, e, j, k), (rw (← u) f, rw (← v) (leb-true 16 (length b) l.0), rw (← v) (leb-true (length b) 32 l.1)))
-nonce_only x y a b c d n true false e f g h i = let z : ◌≡◌ {A = ℕ} 0 1 = cc in absurd (omega arith)
-nonce_only x y a b c d n false q e f g h i = let z : ◌≡◌ {A = ℕ} 0 1 = cc in absurd (omega arith)
 
 sa_then_only :
     (a b c d : List ℕ) (y : ℕ) (n : List ℕ) (q : Option ℕ) → Octets a → sa_in a ≡ q →
@@ -258,8 +250,8 @@ sa_then_only :
     (zipped offer_order (a ∷ b ∷ c ∷ d ∷ []) ≡ offer_parts y n) × ValidOffer y n
 sa_then_only a b c d y n (Some x) o h e =
     let r = sa_only a x o h in
-    nonce_only x y a b c d n (nonce_long b) (bytes_eq c ts_body && bytes_eq d ts_body) r.0 r.1 refl refl e
-sa_then_only a b c d y n None o h e = let z : ◌≡◌ {A = ℕ} 0 1 = cc in absurd (omega arith)
+    nonce_only x y a b c d n r.0 r.1 e
+sa_then_only a b c d y n None o h e = cc
 
 offer_only :
     (bs : List (List ℕ)) (y : ℕ) (n : List ℕ) → length bs ≡ 4 → Each bs → offer_in bs ≡ Ok (y, n) →
@@ -294,7 +286,7 @@ create_only k s bs r (Ok (x, n)) p h e =
     let z : request.Create x n ≡ r = cc in
     subst (λ x. Requested k s x) z
     (split_reads offer_order k s bs (offer_parts x n) p f.0, f.1, refl)
-create_only k s bs r (Err d) p h e = let z : ◌≡◌ {A = ℕ} 0 1 = cc in absurd (omega arith)
+create_only k s bs r (Err d) p h e = cc
 
 rekey_only :
     (k : ℕ) (s : List ℕ) (a : List ℕ) (bs : List (List ℕ)) (r : Request (List ℕ)) (u : Option ℕ)
@@ -309,8 +301,8 @@ rekey_only k s a bs r (Some o) (Ok (x, n)) p g h e =
     let j : zipped rekey_order (a ∷ bs) ≡ part 41 (rekey_body o) ∷ offer_parts x n = rw (f.0, v.0) in
     subst (λ x. Requested k s x) z
     (split_reads rekey_order k s (a ∷ bs) (part 41 (rekey_body o) ∷ offer_parts x n) p j, (v.1, f.1), refl)
-rekey_only k s a bs r (Some o) (Err d) p g h e = let z : ◌≡◌ {A = ℕ} 0 1 = cc in absurd (omega arith)
-rekey_only k s a bs r None q p g h e = let z : ◌≡◌ {A = ℕ} 0 1 = cc in absurd (omega arith)
+rekey_only k s a bs r (Some o) (Err d) p g h e = cc
+rekey_only k s a bs r None q p g h e = cc
 
 rekey_from_only :
     (k : ℕ) (s : List ℕ) (r : Request (List ℕ)) (q : Option (List (List ℕ))) → Octets s → bodies rekey_order k s ≡ q →
@@ -319,7 +311,7 @@ rekey_from_only k s r (Some (a ∷ bs)) o h e =
     rekey_only k s a bs r (rekeyed_in a) (offer_in bs) (bodies_only rekey_order k s (a ∷ bs) o h) refl refl e
 rekey_from_only k s r (Some []) o h e =
     let p = bodies_only rekey_order k s [] o h in absurd (omega (arith, p.2))
-rekey_from_only k s r None o h e = let z : ◌≡◌ {A = ℕ} 0 1 = cc in absurd (omega arith)
+rekey_from_only k s r None o h e = cc
 
 create_or_only :
     (k : ℕ) (s : List ℕ) (r : Request (List ℕ)) (q : Option (List (List ℕ))) → Octets s → bodies offer_order k s ≡ q →
@@ -343,7 +335,7 @@ new_only k s bs r (Ok (x, n)) p h e =
     let z : response.NewSa x n ≡ r = cc in
     subst (λ x. Responded k s x) z
     (split_reads offer_order k s bs (offer_parts x n) p f.0, f.1, refl)
-new_only k s bs r (Err d) p h e = let z : ◌≡◌ {A = ℕ} 0 1 = cc in absurd (omega arith)
+new_only k s bs r (Err d) p h e = cc
 
 failed_only :
     (k : ℕ) (s : List ℕ) (a : List ℕ) (bs : List (List ℕ)) (r : Response (List ℕ)) (u : Option Failure) →
@@ -354,7 +346,7 @@ failed_only k s a bs r (Some f) p g e =
     let j : zipped (41 ∷ []) (a ∷ bs) ≡ part 41 (failure_body f) ∷ [] = rw v.0 in
     subst (λ x. Responded k s x) z
     (split_reads (41 ∷ []) k s (a ∷ bs) (part 41 (failure_body f) ∷ []) p j, v.1, refl)
-failed_only k s a bs r None p g e = let z : ◌≡◌ {A = ℕ} 0 1 = cc in absurd (omega arith)
+failed_only k s a bs r None p g e = cc
 
 failed_from_only :
     (k : ℕ) (s : List ℕ) (r : Response (List ℕ)) (q : Option (List (List ℕ))) → Octets s → bodies (41 ∷ []) k s ≡ q →
@@ -363,7 +355,7 @@ failed_from_only k s r (Some (a ∷ bs)) o h e =
     failed_only k s a bs r (failure_in a) (bodies_only (41 ∷ []) k s (a ∷ bs) o h) refl e
 failed_from_only k s r (Some []) o h e =
     let p = bodies_only (41 ∷ []) k s [] o h in absurd (omega (arith, p.2))
-failed_from_only k s r None o h e = let z : ◌≡◌ {A = ℕ} 0 1 = cc in absurd (omega arith)
+failed_from_only k s r None o h e = cc
 
 new_or_only :
     (k : ℕ) (s : List ℕ) (r : Response (List ℕ)) (q : Option (List (List ℕ))) → Octets s → bodies offer_order k s ≡ q →
@@ -396,7 +388,7 @@ deleting_only k s a bs r (Some x) p g e =
     let j : zipped (42 ∷ []) (a ∷ bs) ≡ part 42 (delete_body x) ∷ [] = rw v.0 in
     subst (λ y. Reads k s (informational_parts y) × ValidInformational y) z
     (split_reads (42 ∷ []) k s (a ∷ bs) (part 42 (delete_body x) ∷ []) p j, v.1)
-deleting_only k s a bs r None p g e = let z : ◌≡◌ {A = ℕ} 0 1 = cc in absurd (omega arith)
+deleting_only k s a bs r None p g e = cc
 
 deleted_from_only :
     (k : ℕ) (s : List ℕ) (r : Option ℕ) (q : Option (List (List ℕ))) → Octets s → bodies (42 ∷ []) k s ≡ q →
@@ -405,7 +397,7 @@ deleted_from_only k s r (Some (a ∷ bs)) o h e =
     deleting_only k s a bs r (deleted_in a) (bodies_only (42 ∷ []) k s (a ∷ bs) o h) refl e
 deleted_from_only k s r (Some []) o h e =
     let p = bodies_only (42 ∷ []) k s [] o h in absurd (omega (arith, p.2))
-deleted_from_only k s r None o h e = let z : ◌≡◌ {A = ℕ} 0 1 = cc in absurd (omega arith)
+deleted_from_only k s r None o h e = cc
 
 empty_or_only :
     (k : ℕ) (s : List ℕ) (r : Option ℕ) (q : Option (List (List ℕ))) → Octets s → bodies [] k s ≡ q →
@@ -423,14 +415,6 @@ unfolding informational_in
 informational_only k s r o e = empty_or_only k s r (bodies [] k s) o refl e
 
 -- the body of a message
-abbrev exchange_number : Exchange → ℕ
-exchange_number CreateChildSa = 36
-exchange_number Informational = 37
-
-abbrev direction_flag : Direction → ℕ
-direction_flag Asking = 0x00
-direction_flag Answering = 0x20
-
 abbrev Read : Exchange → Direction → ℕ → List ℕ → Body (List ℕ) → Type 0
 Read x d k s b =
     Reads k s (parts_of b) × ValidBody b × (exchange_of b ≡ exchange_number x) × (response_flag b ≡ direction_flag d)
@@ -442,7 +426,7 @@ asks_only k s b (Ok r) o h e =
     let f = request_only k s r o h in
     let z : body.Request r ≡ b = cc in
     subst (λ x. Read CreateChildSa Asking k s x) z (f.0, f.1, f.2, refl)
-asks_only k s b (Err d) o h e = let z : ◌≡◌ {A = ℕ} 0 1 = cc in absurd (omega arith)
+asks_only k s b (Err d) o h e = cc
 
 answers_only :
     (k : ℕ) (s : List ℕ) (b : Body (List ℕ)) (q : Result (Response (List ℕ)) DecodeRefusal) → Octets s →
@@ -451,7 +435,7 @@ answers_only k s b (Ok r) o h e =
     let f = response_only k s r o h in
     let z : body.Response r ≡ b = cc in
     subst (λ x. Read CreateChildSa Answering k s x) z (f.0, f.1, f.2, refl)
-answers_only k s b (Err d) o h e = let z : ◌≡◌ {A = ℕ} 0 1 = cc in absurd (omega arith)
+answers_only k s b (Err d) o h e = cc
 
 informs_request_only :
     (k : ℕ) (s : List ℕ) (b : Body (List ℕ)) (q : Result (Option ℕ) DecodeRefusal) → Octets s →
@@ -464,7 +448,7 @@ informs_request_only k s b (Ok (Some y)) o h e =
     let f = informational_only k s (Some y) o h in
     let z : body.Request (request.Delete y) ≡ b = cc in
     subst (λ x. Read Informational Asking k s x) z (f.0, f.1, refl, refl)
-informs_request_only k s b (Err d) o h e = let z : ◌≡◌ {A = ℕ} 0 1 = cc in absurd (omega arith)
+informs_request_only k s b (Err d) o h e = cc
 
 informs_response_only :
     (k : ℕ) (s : List ℕ) (b : Body (List ℕ)) (q : Result (Option ℕ) DecodeRefusal) → Octets s →
@@ -477,7 +461,7 @@ informs_response_only k s b (Ok (Some y)) o h e =
     let f = informational_only k s (Some y) o h in
     let z : body.Response (response.Delete y) ≡ b = cc in
     subst (λ x. Read Informational Answering k s x) z (f.0, f.1, refl, refl)
-informs_response_only k s b (Err d) o h e = let z : ◌≡◌ {A = ℕ} 0 1 = cc in absurd (omega arith)
+informs_response_only k s b (Err d) o h e = cc
 
 body_only :
     (x : Exchange) (d : Direction) (k : ℕ) (s : List ℕ) (b : Body (List ℕ)) → Octets s → body_in x d k s ≡ Ok b →
@@ -492,20 +476,20 @@ exchange_only : (n : ℕ) (x : Exchange) → exchange_in n ≡ Some x → n ≡ 
 exchange_only n CreateChildSa e = grind (arith, nat_tests)
 exchange_only n Informational e = grind (arith, nat_tests)
 
-flags_only : (n : ℕ) (f : Side × Direction) → flags_in n ≡ Some f → n ≡ sender_flag f.0 + direction_flag f.1
-flags_only n (A, Asking) e = grind (arith, nat_tests)
-flags_only n (B, Asking) e = grind (arith, nat_tests)
-flags_only n (A, Answering) e = grind (arith, nat_tests)
-flags_only n (B, Answering) e = grind (arith, nat_tests)
+flags_only : (n : ℕ) (s : Side) (d : Direction) → flags_in n ≡ Some (flags s d) → n ≡ sender_flag s + direction_flag d
+flags_only n A Asking e = grind (arith, nat_tests)
+flags_only n B Asking e = grind (arith, nat_tests)
+flags_only n A Answering e = grind (arith, nat_tests)
+flags_only n B Answering e = grind (arith, nat_tests)
 
 abbrev Headed : List ℕ → Header → Type 0
 Headed s h =
     (get_or s 17 0 ≡ 0x20) × (get_or s 18 0 ≡ exchange_number h.exchange)
-    × (get_or s 19 0 ≡ sender_flag h.sender + direction_flag h.direction) × (h.initiator ≡ long s 0)
+    × (get_or s 19 0 ≡ flags_octet h.flags) × (h.initiator ≡ long s 0)
     × (h.responder ≡ long s 8) × (h.next ≡ get_or s 16 0) × (h.id ≡ word s 20)
 
 header_from_only :
-    (s : List ℕ) (h : Header) (x : Option Exchange) (f : Option (Side × Direction)) → get_or s 17 0 ≡ 0x20 →
+    (s : List ℕ) (h : Header) (x : Option Exchange) (f : Option Flags) → get_or s 17 0 ≡ 0x20 →
     exchange_in (get_or s 18 0) ≡ x → flags_in (get_or s 19 0) ≡ f → header_from s x f ≡ Some h → Headed s h
 header_from_only s h (Some x) (Some f) v g j e =
     let given : Header = record {
@@ -513,26 +497,22 @@ header_from_only s h (Some x) (Some f) v g j e =
       responder = long s 8;
       next = get_or s 16 0;
       exchange = x;
-      sender = f.0;
-      direction = f.1;
+      flags = f;
       id = word s 20;
     } in
     let z : given ≡ h = cc in
     subst (λ y. Headed s y) z
-    (v, exchange_only (get_or s 18 0) x g, flags_only (get_or s 19 0) f j, refl, refl, refl, refl)
-header_from_only s h (Some x) None v g j e = let z : ◌≡◌ {A = ℕ} 0 1 = cc in absurd (omega arith)
-header_from_only s h None f v g j e = let z : ◌≡◌ {A = ℕ} 0 1 = cc in absurd (omega arith)
-
-header_by :
-    (s : List ℕ) (h : Header) (b : Bool) → eqb (get_or s 17 0) 0x20 ≡ b →
-    cond b (header_from s (exchange_in (get_or s 18 0)) (flags_in (get_or s 19 0))) None ≡ Some h → Headed s h
-header_by s h true v e =
-    header_from_only s h (exchange_in (get_or s 18 0)) (flags_in (get_or s 19 0)) (eqb-true (get_or s 17 0) 0x20 v) refl refl e
-header_by s h false v e = let z : ◌≡◌ {A = ℕ} 0 1 = cc in absurd (omega arith)
+    (v, exchange_only (get_or s 18 0) x g, flags_only (get_or s 19 0) f.sender f.direction j, refl, refl, refl, refl)
+header_from_only s h (Some x) None v g j e = cc
+header_from_only s h None f v g j e = cc
 
 header_only : (s : List ℕ) (h : Header) → header_in s ≡ Some h → Headed s h
 unfolding header_in
-header_only s h e = header_by s h (eqb (get_or s 17 0) 0x20) refl e
+header_only s h e =
+    let x = exchange_in (get_or s 18 0) in
+    let f = flags_in (get_or s 19 0) in
+    let r = cond_given (eqb (get_or s 17 0) 0x20) (header_from s x f) h e in
+    header_from_only s h x f (eqb-true (get_or s 17 0) 0x20 r.0) refl refl r.1
 
 -- octets as the numbers that they are
 module _ (s : List ℕ) (o : Octets s) (room : 28 ≤ length s) where
@@ -600,21 +580,21 @@ parts_joined m s rest i r n v x f w l e a b c d g h j k p = rw (a, b, c, g, h, j
 
 with_body_only :
     (s : List ℕ) (h : Header) (m : Message (List ℕ)) (q : Result (Body (List ℕ)) DecodeRefusal) → Octets s →
-    28 ≤ length s → word s 24 ≡ length s → Headed s h → body_in h.exchange h.direction h.next (drop 28 s) ≡ q →
+    28 ≤ length s → word s 24 ≡ length s → Headed s h → body_in h.exchange h.flags.direction h.next (drop 28 s) ≡ q →
     with_body h q ≡ Ok m → (octets_of m ≡ s) × Valid m
 with_body_only s h m (Ok b) o l w (v, x, f, i, r, n, d) g e =
-    let p = body_only h.exchange h.direction h.next (drop 28 s) b (octets_drop 28 s o) g in
+    let p = body_only h.exchange h.flags.direction h.next (drop 28 s) b (octets_drop 28 s o) g in
     let given : Message (List ℕ) = record {
       initiator = h.initiator;
       responder = h.responder;
-      sender = h.sender;
+      sender = h.flags.sender;
       id = h.id;
       body = b;
     } in
     let z : given ≡ m = cc in
     let c = p.0.0 in
     let k : 28 + length (chain (parts_of b)) ≡ word s 24 = omega (arith, ap length c, length-drop 28 s) in
-    let fl : sender_flag h.sender + response_flag b ≡ get_or s 19 0 = rw p.3 (sym f) in
+    let fl : sender_flag h.flags.sender + response_flag b ≡ get_or s 19 0 = rw p.3 (sym f) in
     let joined =
     parts_joined given s (drop 28 s) (long s 0) (long s 8) (get_or s 16 0) (get_or s 17 0) (get_or s 18 0) (get_or s 19 0) (word s 20)
     (word s 24) (front s o l) i r (sym p.0.1 ∙ n) (sym v) (p.2 ∙ sym x) fl d k (sym c)
@@ -628,7 +608,7 @@ with_body_only s h m (Ok b) o l w (v, x, f, i, r, n, d) g e =
         body = p.1;
       },
     )
-with_body_only s h m (Err d) o l w k g e = let z : ◌≡◌ {A = ℕ} 0 1 = cc in absurd (omega arith)
+with_body_only s h m (Err d) o l w k g e = cc
 
 with_header_only :
     (s : List ℕ) (m : Message (List ℕ)) (q : Option Header) → Octets s → sized s ≡ true → header_in s ≡ q →
@@ -636,16 +616,12 @@ with_header_only :
 with_header_only s m (Some h) o t g e =
     let a = and_parts _ _ t in
     let b = and_parts _ _ a.1 in
-    with_body_only s h m (body_in h.exchange h.direction h.next (drop 28 s)) o (leb-true 28 (length s) a.0)
+    with_body_only s h m (body_in h.exchange h.flags.direction h.next (drop 28 s)) o (leb-true 28 (length s) a.0)
     (eqb-true (word s 24) (length s) b.1) (header_only s h g) refl e
-with_header_only s m None o t g e = let z : ◌≡◌ {A = ℕ} 0 1 = cc in absurd (omega arith)
-
-decoded_by :
-    (s : List ℕ) (m : Message (List ℕ)) (b : Bool) → Octets s → sized s ≡ b →
-    cond b (with_header (header_in s) s) (Err refusal.Length) ≡ Ok m → (octets_of m ≡ s) × Valid m
-decoded_by s m true o t e = with_header_only s m (header_in s) o t refl e
-decoded_by s m false o t e = let z : ◌≡◌ {A = ℕ} 0 1 = cc in absurd (omega arith)
+with_header_only s m None o t g e = cc
 
 pub message_only : (s : List ℕ) (m : Message (List ℕ)) → Octets s → decoded s ≡ Ok m → (octets_of m ≡ s) × Valid m
 unfolding decoded
-message_only s m o e = decoded_by s m (sized s) o refl e
+message_only s m o e =
+    let r = cond_passed (sized s) (with_header (header_in s) s) refusal.Length m e in
+    with_header_only s m (header_in s) o r.0 refl r.1

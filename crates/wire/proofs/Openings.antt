@@ -1,26 +1,12 @@
 -- The first payload of a chain.
-use Rattle.std.proofs.Common.{◌≡◌, ℕ, ◌+◌, ◌-◌, ◌<◌, ◌≤◌, true, false, ◌⊎◌, List, length, get_or, take, drop, Some, None, ap, ◌∙◌, arith}
+use Rattle.std.proofs.Common.{◌≡◌, ℕ, ◌+◌, ◌-◌, ◌≤◌, true, List, length, get_or, take, drop, Some, ap, ◌∙◌, arith}
 use Rattle.std.proofs.lemmas.List.{drop-drop, take_rest}
 use Rattle.std.proofs.lemmas.Bool.{le-leb, eq-eqb, and_from}
-use Rattle.std.proofs.lemmas.Bool.Decides.{nat_tests}
 use Rattle.octets.specs.Numbers.{half}
 use Rattle.wire.specs.Decoding.{opens, opened}
 
 module _ (s : List ℕ) where
-  pub not_opened : opens s ≡ false → None ≡ opened s
-  unfolding opened
-  not_opened e = rw e
-
-  pub too_short : length s < 4 → opens s ≡ false
-  too_short h = grind (arith, nat_tests)
-
-  pub not_zero : (get_or s 1 0 ≡ 0 → ⊥) → opens s ≡ false
-  not_zero h = grind (arith, nat_tests)
-
-  pub wrong_length : (half s 2 < 4) ⊎ (length s < half s 2) → opens s ≡ false
-  wrong_length h = grind (arith, nat_tests)
-
-  pub right : 4 ≤ length s → get_or s 1 0 ≡ 0 → 4 ≤ half s 2 → half s 2 ≤ length s → opens s ≡ true
+  right : 4 ≤ length s → get_or s 1 0 ≡ 0 → 4 ≤ half s 2 → half s 2 ≤ length s → opens s ≡ true
   right a b c d =
       and_from _ _ (le-leb 4 (length s) a)
       (and_from _ _ (eq-eqb (get_or s 1 0) 0 b)

@@ -1,15 +1,17 @@
 -- What the parts of a chain are as octets.
-use Rattle.std.specs.Prelude.{ℕ, Bool, ◌||◌, List, [], ◌∷◌, ◌==◌}
+use Rattle.std.specs.Prelude.{ℕ, Bool, cond, List, [], ◌∷◌, Some, None, Option, is_some, ◌==◌}
 use Rattle.std.specs.Borrow.{Bor}
 use Rattle.wire.specs.Decoding.{Opened}
-use Rattle.wire.specs.declared.payload.Opening.{Opening}
+use Rattle.wire.specs.declared.payload.PayloadType.{PayloadType}
+use Rattle.wire.specs.declared.payload.PayloadType.TheVariants as type
 use Rattle.wire.specs.declared.payload.Offer.{Offer}
 use Rattle.wire.specs.declared.payload.Chain.{Chain}
 use Rattle.wire.specs.declared.payload.Payload.{Payload}
 use Rattle.wire.specs.declared.payload.Payload.TheVariants.{Sa, Nonce, TsInitiator, TsResponder, Notify, Delete}
 
-abbrev pub opening : Opening → Opened
-opening o = record { body = o.body.now; next = o.next; rest = o.rest.now }
+-- a body, and the chain behind it
+abbrev pub cut : Bor (List ℕ) × Chain → Opened
+cut p = record { body = p.0.now; next = p.1.kind; rest = p.1.octets.now }
 
 -- the type of a payload
 abbrev pub type_of : Payload → ℕ
@@ -36,18 +38,26 @@ type_before p = type_of p.0
 abbrev pub split_off : Payload × Chain → Opened
 split_off p = record { body = body_of p.0; next = p.1.kind; rest = p.1.octets.now }
 
+-- the type that a number stands for
+abbrev pub type_in : ℕ → Option PayloadType
+type_in k =
+    cond (k == 33) (Some type.Sa)
+    (cond (k == 40) (Some type.Nonce)
+    (cond (k == 41) (Some type.Notify)
+    (cond (k == 42) (Some type.Delete)
+    (cond (k == 44) (Some type.TsInitiator) (cond (k == 45) (Some type.TsResponder) None)))))
+
 -- whether there is a payload of this type
 abbrev pub known : ℕ → Bool
-known k = k == 33 || (k == 40 || (k == 41 || (k == 42 || (k == 44 || k == 45))))
+known k = is_some (type_in k)
 
 abbrev pub offered : Offer → List (List ℕ)
 offered o = o.sa.now ∷ o.nonce.now ∷ o.tsi.now ∷ o.tsr.now ∷ []
 
-abbrev pub selected : Bor (List ℕ) × Bor (List ℕ) → List (List ℕ)
-selected p = p.0.now ∷ p.1.now ∷ []
-
 abbrev pub rekeyed : Bor (List ℕ) × Offer → List (List ℕ)
 rekeyed p = p.0.now ∷ offered p.1
 
-abbrev pub alone : Bor (List ℕ) → List (List ℕ)
-alone b = b.now ∷ []
+-- the body of a payload alone, where it has this type
+abbrev pub lone_body : ℕ → Option Payload → Option (List (List ℕ))
+lone_body t None = None
+lone_body t (Some p) = cond (type_of p == t) (Some (body_of p ∷ [])) None

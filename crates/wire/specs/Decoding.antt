@@ -19,6 +19,7 @@ use Rattle.nonce.specs.declared.side.Side.TheVariants.{A, B}
 use Rattle.wire.specs.declared.header.Header.{Header}
 use Rattle.wire.specs.declared.header.Exchange.{Exchange}
 use Rattle.wire.specs.declared.header.Exchange.TheVariants.{CreateChildSa, Informational}
+use Rattle.wire.specs.declared.header.Flags.{Flags}
 use Rattle.wire.specs.declared.header.Direction.{Direction}
 use Rattle.wire.specs.declared.header.Direction.TheVariants.{Asking, Answering}
 
@@ -33,12 +34,16 @@ version_known v = v == 0x20
 abbrev pub exchange_in : ℕ → Option Exchange
 exchange_in x = cond (x == 36) (Some CreateChildSa) (cond (x == 37) (Some Informational) None)
 
-abbrev pub flags_in : ℕ → Option (Side × Direction)
-flags_in f =
-    cond (f == 0x00) (Some (B, Asking))
-    (cond (f == 0x08) (Some (A, Asking)) (cond (f == 0x20) (Some (B, Answering)) (cond (f == 0x28) (Some (A, Answering)) None)))
+abbrev pub flags : Side → Direction → Flags
+flags s d = record { sender = s; direction = d }
 
-abbrev pub header_from : List ℕ → Option Exchange → Option (Side × Direction) → Option Header
+abbrev pub flags_in : ℕ → Option Flags
+flags_in f =
+    cond (f == 0x00) (Some (flags B Asking))
+    (cond (f == 0x08) (Some (flags A Asking))
+    (cond (f == 0x20) (Some (flags B Answering)) (cond (f == 0x28) (Some (flags A Answering)) None)))
+
+abbrev pub header_from : List ℕ → Option Exchange → Option Flags → Option Header
 header_from s None f = None
 header_from s (Some x) None = None
 header_from s (Some x) (Some f) = Some (record {
@@ -46,8 +51,7 @@ header_from s (Some x) (Some f) = Some (record {
   responder = long s 8;
   next = slice_index s 16;
   exchange = x;
-  sender = f.0;
-  direction = f.1;
+  flags = f;
   id = word s 20;
 })
 
@@ -194,14 +198,14 @@ with_body h (Err e) = Err e
 with_body h (Ok b) = Ok (record {
   initiator = h.initiator;
   responder = h.responder;
-  sender = h.sender;
+  sender = h.flags.sender;
   id = h.id;
   body = b;
 })
 
 abbrev pub with_header : Option Header → List ℕ → Result (Message (List ℕ)) DecodeRefusal
 with_header None s = Err refusal.Header
-with_header (Some h) s = with_body h (body_in h.exchange h.direction h.next (drop 28 s))
+with_header (Some h) s = with_body h (body_in h.exchange h.flags.direction h.next (drop 28 s))
 
 unfoldable pub decoded : List ℕ → Result (Message (List ℕ)) DecodeRefusal
 decoded s = cond (sized s) (with_header (header_in s) s) (Err refusal.Length)

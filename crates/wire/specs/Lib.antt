@@ -5,6 +5,5 @@ pub mod Encoding
 pub mod Decoding
 pub mod Exact
 pub mod Lines
-pub mod Texts
 pub mod Chains
 pub mod Readings

@@ -1,5 +1,5 @@
 -- The octets of a message: the header, and the chain of its payloads.
-use Rattle.std.specs.Prelude.{ℕ, ◌+◌, List, [], ◌∷◌, ◌++◌, length}
+use Rattle.std.specs.Prelude.{ℕ, ◌+◌, List, [], ◌∷◌, ◌++◌, length, Some, None, Option}
 use Rattle.octets.specs.Numbers.{be16, be32, be64}
 use Rattle.wire.specs.Payloads.{sa_body, ts_body, rekey_body, failure_body, delete_body}
 use Rattle.wire.specs.declared.message.Message.{Message}
@@ -9,6 +9,13 @@ use Rattle.wire.specs.declared.message.Request.{Request}
 use Rattle.wire.specs.declared.message.Request.TheVariants as request
 use Rattle.wire.specs.declared.message.Response.{Response}
 use Rattle.wire.specs.declared.message.Response.TheVariants as response
+use Rattle.wire.specs.declared.payload.PayloadType.{PayloadType}
+use Rattle.wire.specs.declared.payload.PayloadType.TheVariants as type
+use Rattle.wire.specs.declared.header.Exchange.{Exchange}
+use Rattle.wire.specs.declared.header.Exchange.TheVariants.{CreateChildSa, Informational}
+use Rattle.wire.specs.declared.header.Direction.{Direction}
+use Rattle.wire.specs.declared.header.Direction.TheVariants.{Asking, Answering}
+use Rattle.wire.specs.declared.header.Flags.{Flags}
 use Rattle.nonce.specs.declared.side.Side.{Side}
 use Rattle.nonce.specs.declared.side.Side.TheVariants.{A, B}
 
@@ -38,6 +45,19 @@ module _ {N : Type 0} (f : N → List ℕ) where
     id = m.id;
     body = plain_body m.body;
   }
+
+-- the types of payloads by their numbers, and what announces the next payload: 0 where there is none
+abbrev pub type_number : PayloadType → ℕ
+type_number type.Sa = 33
+type_number type.Nonce = 40
+type_number type.Notify = 41
+type_number type.Delete = 42
+type_number type.TsInitiator = 44
+type_number type.TsResponder = 45
+
+abbrev pub announced : Option PayloadType → ℕ
+announced None = 0
+announced (Some t) = type_number t
 
 -- A payload: its type, and the octets behind its four opening octets.
 pub record Part : Type 0 where
@@ -78,6 +98,10 @@ abbrev pub chain : List Part → List ℕ
 chain [] = []
 chain (p ∷ ps) = first_type ps ∷ 0 ∷ (be16 (4 + length p.body) ++ (p.body ++ chain ps))
 
+abbrev pub exchange_number : Exchange → ℕ
+exchange_number CreateChildSa = 36
+exchange_number Informational = 37
+
 -- the exchange: 36 CREATE_CHILD_SA, 37 INFORMATIONAL
 abbrev pub request_exchange : Request (List ℕ) → ℕ
 request_exchange (request.Create spi nonce) = 36
@@ -100,15 +124,16 @@ abbrev pub sender_flag : Side → ℕ
 sender_flag A = 0x08
 sender_flag B = 0x00
 
+abbrev pub direction_flag : Direction → ℕ
+direction_flag Asking = 0x00
+direction_flag Answering = 0x20
+
+abbrev pub flags_octet : Flags → ℕ
+flags_octet f = sender_flag f.sender + direction_flag f.direction
+
 abbrev pub response_flag : Body (List ℕ) → ℕ
 response_flag (body.Request r) = 0x00
 response_flag (body.Response r) = 0x20
-
-abbrev pub request_kinds : Request (List ℕ) → ℕ × ℕ
-request_kinds r = (first_type (request_parts r), request_exchange r)
-
-abbrev pub response_kinds : Response (List ℕ) → ℕ × ℕ
-response_kinds r = (first_type (response_parts r), response_exchange r)
 
 -- the type of the first payload, the version, the exchange and the flags
 abbrev pub kinds : Side → Body (List ℕ) → List ℕ

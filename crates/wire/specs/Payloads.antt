@@ -3,6 +3,8 @@ use Rattle.std.specs.Prelude.{ℕ, cond, List, [], ◌∷◌, ◌++◌, Some, No
 use Rattle.std.specs.Option.{option_map}
 use Rattle.std.specs.Str.{bytes_eq}
 use Rattle.octets.specs.Numbers.{be16, be32, word}
+use Rattle.wire.specs.declared.table.Naming.{Naming}
+use Rattle.wire.specs.declared.table.Naming.TheVariants.{Rekeyed, NotFound, Deleted}
 use Rattle.wire.specs.declared.message.Failure.{Failure}
 use Rattle.wire.specs.declared.message.Failure.TheVariants.{NoProposalChosen, NoAdditionalSas, TemporaryFailure, ChildSaNotFound}
 
@@ -38,6 +40,17 @@ failure_body (ChildSaNotFound spi) = 0x03 ∷ 0x04 ∷ (be16 44 ++ be32 spi)
 unfoldable pub delete_body : ℕ → List ℕ
 delete_body spi = 0x03 ∷ 0x04 ∷ 0x00 ∷ 0x01 ∷ be32 spi
 
+-- the payloads that name an SPI
+abbrev pub naming_number : Naming → ℕ
+naming_number Rekeyed = 16393
+naming_number NotFound = 44
+naming_number Deleted = 1
+
+abbrev pub naming_body : Naming → ℕ → List ℕ
+naming_body Rekeyed spi = rekey_body spi
+naming_body NotFound spi = failure_body (ChildSaNotFound spi)
+naming_body Deleted spi = delete_body spi
+
 -- the number that stands at place i of a body, where the body is the table's for that number
 unfoldable pub carried : (ℕ → List ℕ) → ℕ → List ℕ → Option ℕ
 carried table i body = cond (bytes_eq body (table (word body i))) (Some (word body i)) None
@@ -54,6 +67,15 @@ deleted_in body = carried delete_body 4 body
 
 unfoldable pub not_found_in : List ℕ → Option ℕ
 not_found_in body = carried (λ x. failure_body (ChildSaNotFound x)) 4 body
+
+abbrev pub named_in : Naming → List ℕ → Option ℕ
+named_in Rekeyed body = rekeyed_in body
+named_in NotFound body = not_found_in body
+named_in Deleted body = deleted_in body
+
+-- the failures whose notification names no SPI
+abbrev pub bare_failures : List Failure
+bare_failures = NoProposalChosen ∷ NoAdditionalSas ∷ TemporaryFailure ∷ []
 
 unfoldable pub failure_in : List ℕ → Option Failure
 failure_in body =

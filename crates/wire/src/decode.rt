@@ -1,102 +1,56 @@
 //! How a message is read from the octets of a datagram.
 ghost use Rattle.std.specs.Prelude.{◌≡◌, ◌≤◌, cond, ◌&&◌, length};
+ghost use Rattle.std.specs.Option.{ok_or};
 ghost use Rattle.octets.specs.Numbers.{word, long};
 ghost use Rattle.nonce.specs.Nonces.{nonce_long};
-ghost use Rattle.wire.specs.Decoding.{sized, exchange_in, flags_in, header_from, header_in, offer_in, request_in, response_in, informational_in, body_in, decoded};
+ghost use Rattle.wire.specs.Decoding.{sized, header_in, offer_in, request_in, response_in, informational_in, body_in, decoded};
 ghost use Rattle.wire.specs.Chains.{offered};
 ghost use Rattle.wire.specs.Exact.{OneEncoding};
 ghost use Rattle.wire.specs.Readings.{offer_read, request_read, response_read, body_read, message_read};
 
-use crate::header::{Direction, Exchange, Header};
+use crate::header::{Direction, Exchange, Flags, Header, VERSION};
 use crate::message::{Body, DecodeRefusal, Message, Request, Response};
-use crate::payload::{Chain, Offer, ends, lone_delete, lone_notify, whole_offer, whole_rekey};
-use crate::table::{deleted_in, failure_in, rekeyed_in, sa_in, ts_body};
-use nonce::side::Side;
-use octets::{same, u32_at, u64_at};
+use crate::payload::{Chain, Offer, Payload};
+use crate::table::{Naming, failure_in, named_in, sa_in, ts_body};
+use octets::{u32_at, u64_at};
 
 /// Whether there are 28 to 160 octets, as many as the header says.
 fn is_sized(s: &[u8]) -> bool
     ensures { result ≡ sized s.now }
 {
-    if s.len() < 28 || s.len() > 160 {
-        return false;
-    }
-    match u32_at(s, 24) {
-        Some(len) => len as usize == s.len(),
-        None => false,
-    }
-}
-
-/// The exchange of this type.
-fn exchange_of(kind: u8) -> Option<Exchange>
-    ensures { result ≡ exchange_in kind }
-{
-    match kind {
-        36 => Some(Exchange::CreateChildSa),
-        37 => Some(Exchange::Informational),
-        _ => None,
-    }
-}
-
-/// Who sends a message with these flags, and whether it asks or answers.
-fn flags_of(flags: u8) -> Option<(Side, Direction)>
-    ensures { result ≡ flags_in flags }
-{
-    match flags {
-        0x00 => Some((Side::B, Direction::Asking)),
-        0x08 => Some((Side::A, Direction::Asking)),
-        0x20 => Some((Side::B, Direction::Answering)),
-        0x28 => Some((Side::A, Direction::Answering)),
-        _ => None,
-    }
+    (28..=160).contains(&s.len()) && u32_at(s, 24).is_some_and(|len| len as usize == s.len())
 }
 
 /// What the header of octets says that are long enough for one.
-fn header_of(s: &[u8]) -> Option<Header>
+#[tactic(auto, unfolding(crate::specs::Decoding::header_in))]
+fn header_of(s: &[u8]) -> Result<Header, DecodeRefusal>
     requires { 28 ≤ length s.now }
-    ensures { result ≡ header_in s.now }
+    ensures { result ≡ ok_or (header_in s.now) DecodeRefusal.Header }
 {
-    if s[17] != 0x20 {
-        return None;
+    if s[17] != VERSION {
+        return Err(DecodeRefusal::Header);
     }
-    let Some(exchange) = exchange_of(s[18]) else {
-        return None;
-    };
-    let Some((sender, direction)) = flags_of(s[19]) else {
-        return None;
-    };
-    let Some(initiator) = u64_at(s, 0) else {
-        return None;
-    };
-    let Some(responder) = u64_at(s, 8) else {
-        return None;
-    };
-    let Some(id) = u32_at(s, 20) else {
-        return None;
-    };
-    Some(Header {
-        initiator,
-        responder,
+    Ok(Header {
+        initiator: u64_at(s, 0).ok_or(DecodeRefusal::Header)?,
+        responder: u64_at(s, 8).ok_or(DecodeRefusal::Header)?,
         next: s[16],
-        exchange,
-        sender,
-        direction,
-        id,
+        exchange: Exchange::try_from(s[18])?,
+        flags: Flags::try_from(s[19])?,
+        id: u32_at(s, 20).ok_or(DecodeRefusal::Header)?,
     })
 }
 
 /// The SPI and the nonce of an offer.
+#[tactic(auto, unfolding(crate::specs::Decoding::offer_in))]
 fn read_offer(offer: Offer<'_>) -> Result<(u32, &[u8]), DecodeRefusal>
     ensures { offer_read result ≡ offer_in (offered offer.entry) }
 {
-    let Some(spi) = sa_in(offer.sa) else {
-        return Err(DecodeRefusal::Payload);
-    };
-    if offer.nonce.len() < 16 || offer.nonce.len() > 32 {
+    let spi = sa_in(offer.sa).ok_or(DecodeRefusal::Payload)?;
+    if !(16..=32).contains(&offer.nonce.len()) {
         return Err(DecodeRefusal::NonceLength);
     }
     let all = ts_body();
-    if same(offer.tsi, &all) && same(offer.tsr, &all) {
+    if offer.tsi == all.as_slice() && offer.tsr == all.as_slice() {
         Ok((spi, offer.nonce))
     } else {
         Err(DecodeRefusal::Payload)
@@ -104,81 +58,80 @@ fn read_offer(offer: Offer<'_>) -> Result<(u32, &[u8]), DecodeRefusal>
 }
 
 /// The request of the exchange CREATE_CHILD_SA that a chain is.
+#[tactic(auto, unfolding(crate::specs::Decoding::request_in))]
 fn create_request(chain: Chain<'_>) -> Result<Request<&[u8]>, DecodeRefusal>
     ensures { request_read result ≡ request_in chain.entry.kind chain.entry.octets.now }
 {
-    if let Some(offer) = whole_offer(chain) {
+    if let Some(offer) = chain.whole_offer() {
         let (spi, nonce) = read_offer(offer)?;
         return Ok(Request::Create { spi, nonce });
     }
-    let Some((notify, offer)) = whole_rekey(chain) else {
-        return Err(DecodeRefusal::Chain);
-    };
-    let Some(old) = rekeyed_in(notify) else {
-        return Err(DecodeRefusal::Payload);
-    };
+    let (notify, offer) = chain.whole_rekey().ok_or(DecodeRefusal::Chain)?;
+    let old = named_in(Naming::Rekeyed, notify).ok_or(DecodeRefusal::Payload)?;
     let (spi, nonce) = read_offer(offer)?;
     Ok(Request::Rekey { old, spi, nonce })
 }
 
 /// The response of the exchange CREATE_CHILD_SA that a chain is.
+#[tactic(auto, unfolding(crate::specs::Decoding::response_in))]
 fn create_response(chain: Chain<'_>) -> Result<Response<&[u8]>, DecodeRefusal>
     ensures { response_read result ≡ response_in chain.entry.kind chain.entry.octets.now }
 {
-    if let Some(offer) = whole_offer(chain) {
+    if let Some(offer) = chain.whole_offer() {
         let (spi, nonce) = read_offer(offer)?;
         return Ok(Response::NewSa { spi, nonce });
     }
-    let Some(notify) = lone_notify(chain) else {
+    let Some(Payload::Notify(notify)) = chain.lone() else {
         return Err(DecodeRefusal::Chain);
     };
-    match failure_in(notify) {
-        Some(failure) => Ok(Response::Failed(failure)),
-        None => Err(DecodeRefusal::Payload),
-    }
+    let failure = failure_in(notify).ok_or(DecodeRefusal::Payload)?;
+    Ok(Response::Failed(failure))
 }
 
 /// The SPI that a message of the exchange INFORMATIONAL deletes, or nothing where it is empty.
+#[tactic(auto, unfolding(crate::specs::Decoding::informational_in))]
 fn informational(chain: Chain<'_>) -> Result<Option<u32>, DecodeRefusal>
     ensures { result ≡ informational_in chain.entry.kind chain.entry.octets.now }
 {
-    if ends(chain) {
+    if chain.ends() {
         return Ok(None);
     }
-    let Some(body) = lone_delete(chain) else {
+    let Some(Payload::Delete(body)) = chain.lone() else {
         return Err(DecodeRefusal::Chain);
     };
-    match deleted_in(body) {
-        Some(spi) => Ok(Some(spi)),
-        None => Err(DecodeRefusal::Payload),
-    }
+    named_in(Naming::Deleted, body)
+        .map(Some)
+        .ok_or(DecodeRefusal::Payload)
 }
 
-/// What a chain of payloads says in this exchange and direction.
-fn body_of(
-    exchange: Exchange,
-    direction: Direction,
-    chain: Chain<'_>,
-) -> Result<Body<&[u8]>, DecodeRefusal>
-    ensures { body_read result ≡ body_in exchange direction chain.entry.kind chain.entry.octets.now }
+/// What the payloads behind a header say.
+fn body_of(header: Header, octets: &[u8]) -> Result<Body<&[u8]>, DecodeRefusal>
+    ensures { body_read result ≡ body_in header.exchange header.flags.direction header.next octets.now }
 {
-    match (exchange, direction) {
-        (Exchange::CreateChildSa, Direction::Asking) => Ok(Body::Request(create_request(chain)?)),
-        (Exchange::CreateChildSa, Direction::Answering) => Ok(Body::Response(create_response(
-            chain,
-        )?)),
-        (Exchange::Informational, Direction::Asking) => match informational(chain)? {
-            Some(spi) => Ok(Body::Request(Request::Delete { spi })),
-            None => Ok(Body::Request(Request::Empty)),
-        },
-        (Exchange::Informational, Direction::Answering) => match informational(chain)? {
-            Some(spi) => Ok(Body::Response(Response::Delete { spi })),
-            None => Ok(Body::Response(Response::Empty)),
-        },
+    let chain = Chain {
+        kind: header.next,
+        octets,
+    };
+    match (header.exchange, header.flags.direction) {
+        (Exchange::CreateChildSa, Direction::Asking) => create_request(chain).map(Body::Request),
+        (Exchange::CreateChildSa, Direction::Answering) => {
+            create_response(chain).map(Body::Response)
+        }
+        (Exchange::Informational, Direction::Asking) => {
+            let deleted = informational(chain)?;
+            let request = deleted.map_or(Request::Empty, |spi| Request::Delete { spi });
+            Ok(Body::Request(request))
+        }
+        (Exchange::Informational, Direction::Answering) => {
+            let deleted = informational(chain)?;
+            let response = deleted.map_or(Response::Empty, |spi| Response::Delete { spi });
+            Ok(Body::Response(response))
+        }
     }
 }
 
 /// The message that these octets are, its nonce a part of them, or the first check that they fail.
+#[tactic(auto, using(crate::proofs::Exactly::one_encoding), unfolding(crate::specs::Decoding::decoded))]
 pub fn decode(s: &[u8]) -> Result<Message<&[u8]>, DecodeRefusal>
     ensures value { message_read result ≡ decoded s.now }
     ensures exact { OneEncoding }
@@ -186,18 +139,12 @@ pub fn decode(s: &[u8]) -> Result<Message<&[u8]>, DecodeRefusal>
     if !is_sized(s) {
         return Err(DecodeRefusal::Length);
     }
-    let Some(header) = header_of(s) else {
-        return Err(DecodeRefusal::Header);
-    };
-    let chain = Chain {
-        kind: header.next,
-        octets: s.split_at(28).1,
-    };
-    let body = body_of(header.exchange, header.direction, chain)?;
+    let header = header_of(s)?;
+    let body = body_of(header, s.split_at(28).1)?;
     Ok(Message {
         initiator: header.initiator,
         responder: header.responder,
-        sender: header.sender,
+        sender: header.flags.sender,
         id: header.id,
         body,
     })

@@ -1,112 +1,96 @@
 //! How a message is written as octets.
-ghost use Rattle.std.specs.Prelude.{◌≡◌, ◌+◌, ◌≤◌, cond, ◌++◌, length};
+ghost use Rattle.std.specs.Prelude.{◌≡◌, ◌≤◌, ◌++◌};
+ghost use Rattle.arrayvec.specs.ArrayVec.{array_vec_len};
 ghost use Rattle.wire.specs.Encoding.{written, overwritten};
-ghost use Rattle.wire.specs.Exact.{ValidOffer, ValidRequest, ValidFailure, ValidResponse, ValidBody, Valid};
-ghost use Rattle.wire.specs.Texts.{octets_in};
-ghost use Rattle.wire.specs.Messages.{offer_parts, request_parts, response_parts, parts_of, chain, request_kinds, response_kinds, kinds, sender_flag, octets_of};
+ghost use Rattle.wire.specs.Exact.{ValidOffer, ValidBody, Valid};
+ghost use Rattle.wire.specs.Messages.{offer_parts, parts_of, first_type, announced, chain, exchange_number, exchange_of, direction_flag, response_flag, kinds, octets_of};
 
-use crate::message::{Body, EncodeRefusal, Failure, Message, Request, Response};
-use crate::table::{bare_body, delete_body, not_found_body, rekey_body, sa_body, ts_body};
-use crate::text::Text;
+use crate::header::{Direction, Exchange, Flags, VERSION};
+use crate::message::{Body, EncodeRefusal, Message, Request, Response};
+use crate::payload::{PayloadType, announced};
+use crate::table::{Naming, failure_body, naming_body, sa_body, ts_body};
+use crate::text::{push, push_payload};
+use arrayvec::ArrayVec;
 use nonce::Nonce;
 use nonce::side::Side;
 
+/// The payloads of a message behind one another. The longest are those of a rekey, with 132 octets.
+type Payloads = ArrayVec<u8, 132>;
+
 /// Adds the payloads of an offer: SA, Nonce, TSi and TSr.
-fn push_offer(text: &mut Text, spi: u32, nonce: &Nonce)
-    requires { text.old.len ≤ 12 }
-    ensures octets { octets_in text.new ≡ octets_in text.old ++ chain (offer_parts spi nonce.now) }
-    ensures len { text.new.len ≤ 132 }
+fn push_offer(payloads: &mut Payloads, spi: u32, nonce: &Nonce)
+    requires { array_vec_len payloads.old ≤ 12 }
+    ensures octets { payloads.new.items ≡ payloads.old.items ++ chain (offer_parts spi nonce.now) }
     ensures valid { ValidOffer spi nonce.now }
 {
-    text.push_payload(40, &sa_body(spi));
-    text.push_payload(44, nonce.as_slice());
-    text.push_payload(45, &ts_body());
-    text.push_payload(0, &ts_body());
-}
-
-/// The payloads of a request.
-fn request_chain(request: &Request<Nonce>) -> Text
-    ensures octets { octets_in result ≡ chain (request_parts request.now) }
-    ensures len { result.len ≤ 132 }
-    ensures valid { ValidRequest request.now }
-{
-    let mut text = Text::new();
-    match request {
-        Request::Create { spi, nonce } => push_offer(&mut text, *spi, nonce),
-        Request::Rekey { old, spi, nonce } => {
-            text.push_payload(33, &rekey_body(*old));
-            push_offer(&mut text, *spi, nonce);
-        }
-        Request::Delete { spi } => text.push_payload(0, &delete_body(*spi)),
-        Request::Empty => {}
-    }
-    text
-}
-
-/// Adds the payload of an error notification.
-fn push_failure(text: &mut Text, failure: Failure)
-    requires { text.old.len ≤ 12 }
-    ensures octets { octets_in text.new ≡ octets_in text.old ++ chain (response_parts (Response.Failed failure)) }
-    ensures len { text.new.len ≤ 132 }
-    ensures valid { ValidFailure failure }
-{
-    match failure {
-        Failure::NoProposalChosen => text.push_payload(0, &bare_body(14)),
-        Failure::NoAdditionalSas => text.push_payload(0, &bare_body(35)),
-        Failure::TemporaryFailure => text.push_payload(0, &bare_body(43)),
-        Failure::ChildSaNotFound { spi } => text.push_payload(0, &not_found_body(spi)),
-    }
-}
-
-/// The payloads of a response.
-fn response_chain(response: &Response<Nonce>) -> Text
-    ensures octets { octets_in result ≡ chain (response_parts response.now) }
-    ensures len { result.len ≤ 132 }
-    ensures valid { ValidResponse response.now }
-{
-    let mut text = Text::new();
-    match response {
-        Response::NewSa { spi, nonce } => push_offer(&mut text, *spi, nonce),
-        Response::Failed(failure) => push_failure(&mut text, *failure),
-        Response::Delete { spi } => text.push_payload(0, &delete_body(*spi)),
-        Response::Empty => {}
-    }
-    text
+    push_payload(payloads, Some(PayloadType::Nonce), &sa_body(spi));
+    push_payload(payloads, Some(PayloadType::TsInitiator), nonce.as_slice());
+    push_payload(payloads, Some(PayloadType::TsResponder), &ts_body());
+    push_payload(payloads, None, &ts_body());
 }
 
 /// The payloads of a message.
-fn chain_of(body: &Body<Nonce>) -> Text
-    ensures octets { octets_in result ≡ chain (parts_of body.now) }
-    ensures len { result.len ≤ 132 }
+fn payloads_of(body: &Body<Nonce>) -> Payloads
+    ensures octets { result.items ≡ chain (parts_of body.now) }
     ensures valid { ValidBody body.now }
 {
+    let mut payloads = ArrayVec::new();
     match body {
-        Body::Request(request) => request_chain(request),
-        Body::Response(response) => response_chain(response),
+        Body::Request(Request::Create { spi, nonce })
+        | Body::Response(Response::NewSa { spi, nonce }) => push_offer(&mut payloads, *spi, nonce),
+        Body::Request(Request::Rekey { old, spi, nonce }) => {
+            let rekeyed = naming_body(Naming::Rekeyed, *old);
+            push_payload(&mut payloads, Some(PayloadType::Sa), &rekeyed);
+            push_offer(&mut payloads, *spi, nonce);
+        }
+        Body::Response(Response::Failed(failure)) => {
+            push_payload(&mut payloads, None, failure_body(*failure).as_slice());
+        }
+        Body::Request(Request::Delete { spi }) | Body::Response(Response::Delete { spi }) => {
+            push_payload(&mut payloads, None, &naming_body(Naming::Deleted, *spi));
+        }
+        Body::Request(Request::Empty) | Body::Response(Response::Empty) => {}
+    }
+    payloads
+}
+
+/// The type of the first payload of a message, if it has one.
+fn first_of(body: &Body<Nonce>) -> Option<PayloadType>
+    ensures { announced result ≡ first_type (parts_of body.now) }
+{
+    match body {
+        Body::Request(Request::Create { .. }) | Body::Response(Response::NewSa { .. }) => {
+            Some(PayloadType::Sa)
+        }
+        Body::Request(Request::Rekey { .. }) | Body::Response(Response::Failed(_)) => {
+            Some(PayloadType::Notify)
+        }
+        Body::Request(Request::Delete { .. }) | Body::Response(Response::Delete { .. }) => {
+            Some(PayloadType::Delete)
+        }
+        Body::Request(Request::Empty) | Body::Response(Response::Empty) => None,
     }
 }
 
-/// The type of the first payload of a request, and the exchange type.
-fn request_kinds(request: &Request<Nonce>) -> (u8, u8)
-    ensures { result ≡ request_kinds request.now }
+/// The exchange of a message.
+fn exchange_of(body: &Body<Nonce>) -> Exchange
+    ensures { exchange_number result ≡ exchange_of body.now }
 {
-    match request {
-        Request::Create { .. } => (33, 36),
-        Request::Rekey { .. } => (41, 36),
-        Request::Delete { .. } => (42, 37),
-        Request::Empty => (0, 37),
+    match body {
+        Body::Request(Request::Create { .. } | Request::Rekey { .. })
+        | Body::Response(Response::NewSa { .. } | Response::Failed(_)) => Exchange::CreateChildSa,
+        Body::Request(Request::Delete { .. } | Request::Empty)
+        | Body::Response(Response::Delete { .. } | Response::Empty) => Exchange::Informational,
     }
 }
 
-/// The type of the first payload of a response, and the exchange type.
-fn response_kinds(response: &Response<Nonce>) -> (u8, u8)
-    ensures { result ≡ response_kinds response.now }
+/// Whether a message asks or answers.
+fn direction_of(body: &Body<Nonce>) -> Direction
+    ensures { direction_flag result ≡ response_flag body.now }
 {
-    match response {
-        Response::NewSa { .. } => (33, 36),
-        Response::Failed(_) => (41, 36),
-        Response::Delete { .. } => (42, 37),
-        Response::Empty => (0, 37),
+    match body {
+        Body::Request(_) => Direction::Asking,
+        Body::Response(_) => Direction::Answering,
     }
 }
 
@@ -114,60 +98,49 @@ fn response_kinds(response: &Response<Nonce>) -> (u8, u8)
 fn kinds_of(sender: Side, body: &Body<Nonce>) -> [u8; 4]
     ensures { result ≡ kinds sender body.now }
 {
-    let sent = sender_flag(sender);
-    match body {
-        Body::Request(request) => {
-            let (first, exchange) = request_kinds(request);
-            [first, 0x20, exchange, sent]
-        }
-        Body::Response(response) => {
-            let (first, exchange) = response_kinds(response);
-            [first, 0x20, exchange, sent + 0x20]
-        }
-    }
-}
-
-/// The flag that says who sends.
-fn sender_flag(sender: Side) -> u8
-    ensures { result ≡ sender_flag sender }
-{
-    match sender {
-        Side::A => 0x08,
-        Side::B => 0x00,
-    }
+    let flags = Flags {
+        sender,
+        direction: direction_of(body),
+    };
+    [
+        announced(first_of(body)),
+        VERSION,
+        exchange_of(body) as u8,
+        flags.into(),
+    ]
 }
 
 /// The octets of a message.
-fn text_of(message: &Message<Nonce>) -> Text
-    ensures octets { octets_in result ≡ octets_of message.now }
+fn text_of(message: &Message<Nonce>) -> ArrayVec<u8, 160>
+    ensures octets { result.items ≡ octets_of message.now }
     ensures valid { Valid message.now }
 {
-    let payloads = chain_of(&message.body);
-    let mut text = Text::new();
-    text.push(&message.initiator.to_be_bytes());
-    text.push(&message.responder.to_be_bytes());
-    text.push(&kinds_of(message.sender, &message.body));
-    text.push(&message.id.to_be_bytes());
-    text.push(&(28 + payloads.as_slice().len() as u32).to_be_bytes());
-    text.push(payloads.as_slice());
+    let payloads = payloads_of(&message.body);
+    let mut text = ArrayVec::new();
+    push(&mut text, &message.initiator.to_be_bytes());
+    push(&mut text, &message.responder.to_be_bytes());
+    push(&mut text, &kinds_of(message.sender, &message.body));
+    push(&mut text, &message.id.to_be_bytes());
+    push(&mut text, &(28 + payloads.len() as u32).to_be_bytes());
+    push(&mut text, payloads.as_slice());
     text
 }
 
 impl Message<Nonce> {
     /// Writes the message to the front of a buffer and says how many octets it has, or refuses where the buffer is too
     /// short for it. Octets behind it, and the whole buffer at a refusal, stay as they were.
+    #[tactic(auto, unfolding(crate::specs::Encoding::written, crate::specs::Encoding::overwritten))]
     pub fn encode(&self, out: &mut [u8]) -> Result<usize, EncodeRefusal>
         ensures answer { result ≡ written self.now out.old }
         ensures buffer { out.new ≡ overwritten self.now out.old }
         ensures valid { Valid self.now }
     {
         let text = text_of(self);
-        let octets = text.as_slice();
-        let len = octets.len();
+        let len = text.len();
         if out.len() < len {
             return Err(EncodeRefusal::BufferTooShort);
         }
-        out[0..len].copy_from_slice(octets);
+        out[0..len].copy_from_slice(text.as_slice());
         Ok(len)
     }
 }

@@ -3,7 +3,7 @@
 
 pub mod decode;
 pub mod encode;
-mod header;
+pub mod header;
 pub mod lines;
 pub mod message;
 pub mod payload;

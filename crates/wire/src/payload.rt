@@ -1,8 +1,48 @@
 //! The chain of payloads behind the header, each a part of the datagram.
-ghost use Rattle.std.specs.Prelude.{◌≡◌, false, ◌&&◌, [], ◌∷◌, length, IfSome, if◌then◌else◌, None, MatchOption, ◌==◌};
-ghost use Rattle.std.specs.Option.{option_map};
+ghost use Rattle.std.specs.Prelude.{◌≡◌, ℕ, true, [], ◌∷◌, ◌&&◌, length, IfSome, if◌then◌else◌, None, ◌==◌};
+ghost use Rattle.std.specs.Option.{option_map, ok_or};
 ghost use Rattle.wire.specs.Decoding.{opened, bodies, offer_order, rekey_order};
-ghost use Rattle.wire.specs.Chains.{opening, known, type_of, body_of, split_off, type_before, selected, offered, rekeyed, alone};
+ghost use Rattle.wire.specs.Chains.{cut, known, type_in, type_of, body_of, split_off, type_before, offered, rekeyed, lone_body};
+ghost use Rattle.wire.specs.Messages.{type_number, announced};
+ghost use Rattle.wire.specs.declared.message.DecodeRefusal.TheVariants as refusal;
+
+use crate::message::DecodeRefusal;
+
+/// The types of payloads.
+#[derive(Clone, Copy)]
+pub(crate) enum PayloadType {
+    Sa = 33,
+    Nonce = 40,
+    Notify = 41,
+    Delete = 42,
+    TsInitiator = 44,
+    TsResponder = 45,
+}
+
+impl TryFrom<u8> for PayloadType {
+    type Error = DecodeRefusal;
+
+    ghost try_from_gives = { λ octet r. r ≡ ok_or (type_in octet) refusal.Chain };
+
+    fn try_from(octet: u8) -> Result<PayloadType, DecodeRefusal> {
+        match octet {
+            33 => Ok(PayloadType::Sa),
+            40 => Ok(PayloadType::Nonce),
+            41 => Ok(PayloadType::Notify),
+            42 => Ok(PayloadType::Delete),
+            44 => Ok(PayloadType::TsInitiator),
+            45 => Ok(PayloadType::TsResponder),
+            _ => Err(DecodeRefusal::Chain),
+        }
+    }
+}
+
+/// The number of a type; 0 where no payload is announced.
+pub(crate) fn announced(next: Option<PayloadType>) -> u8
+    ensures { result ≡ announced next }
+{
+    next.map_or(0, |kind| kind as u8)
+}
 
 /// A payload by its type. Each case borrows the octets behind the four opening ones from the datagram.
 #[derive(Clone, Copy)]
@@ -18,16 +58,9 @@ pub enum Payload<'a> {
 /// What is left of a chain: the type that is announced for its first payload, and its octets.
 #[derive(Clone, Copy)]
 pub(crate) struct Chain<'a> {
+    // as it was announced: any octet, and not only one that names a type
     pub kind: u8,
     pub octets: &'a [u8],
-}
-
-/// The first payload of a chain: its body, the type of the next one, and the octets behind it.
-#[derive(Clone, Copy)]
-pub(crate) struct Opening<'a> {
-    pub body: &'a [u8],
-    pub next: u8,
-    pub rest: &'a [u8],
 }
 
 /// The bodies of an offer: SA, Nonce, TSi, TSr.
@@ -39,135 +72,100 @@ pub(crate) struct Offer<'a> {
     pub tsr: &'a [u8],
 }
 
-/// Takes the four opening octets of a payload, and then its body.
-fn open(octets: &[u8]) -> Option<Opening<'_>>
-    ensures { option_map opening result ≡ opened octets.now }
+/// Takes the four opening octets of a payload, and then its body; the chain behind it is left.
+#[tactic(auto, using(crate::proofs::Openings::opened_cut), unfolding(crate::specs::Decoding::opened))]
+fn open(octets: &[u8]) -> Option<(&[u8], Chain<'_>)>
+    ensures { option_map cut result ≡ opened octets.now }
 {
-    match octets {
-        [next, 0, high, low, behind @ ..] => {
-            let len = usize::from(*high) * 256 + usize::from(*low);
-            if len < 4 || len - 4 > behind.len() {
-                return None;
-            }
-            let (body, rest) = behind.split_at(len - 4);
-            Some(Opening {
-                body,
-                next: *next,
-                rest,
-            })
-        }
-        // the octet that must be zero is not
-        [_, _, _, _, ..] => None,
-        // too short to open
-        _ => None,
-    }
-}
-
-/// The payload of this type and body, or nothing where there is no such type.
-fn of_type(kind: u8, body: &[u8]) -> Option<Payload<'_>>
-    ensures { MatchOption result (known kind ≡ false) (λ p. (type_of p ≡ kind) × (body_of p ≡ body.now)) }
-{
-    match kind {
-        33 => Some(Payload::Sa(body)),
-        40 => Some(Payload::Nonce(body)),
-        41 => Some(Payload::Notify(body)),
-        42 => Some(Payload::Delete(body)),
-        44 => Some(Payload::TsInitiator(body)),
-        45 => Some(Payload::TsResponder(body)),
-        _ => None,
-    }
-}
-
-/// The first payload of a chain, and the chain behind it.
-fn first(chain: Chain<'_>) -> Option<(Payload<'_>, Chain<'_>)>
-    ensures split { option_map split_off result ≡ (if known chain.entry.kind then opened chain.entry.octets.now else None) }
-    ensures kind { IfSome result (λ p. type_before p ≡ chain.entry.kind) }
-{
-    let Some(opening) = open(chain.octets) else {
+    let [kind, 0, high, low, behind @ ..] = octets else {
         return None;
     };
-    let Some(payload) = of_type(chain.kind, opening.body) else {
-        return None;
-    };
+    let len = usize::from(u16::from_be_bytes([*high, *low])).checked_sub(4)?;
+    let (body, octets) = behind.split_at_checked(len)?;
     Some((
-        payload,
+        body,
         Chain {
-            kind: opening.next,
-            octets: opening.rest,
+            kind: *kind,
+            octets,
         },
     ))
 }
 
-/// Whether no payload is left.
-pub(crate) fn ends(chain: Chain<'_>) -> bool
-    ensures { result ≡ (chain.entry.kind == 0 && length chain.entry.octets.now == 0) }
-{
-    chain.kind == 0 && chain.octets.is_empty()
+impl<'a> Payload<'a> {
+    /// The payload of this type and body.
+    fn new(kind: PayloadType, body: &'a [u8]) -> Payload<'a>
+        ensures kind { type_of result ≡ type_number kind }
+        ensures body { body_of result ≡ body.now }
+    {
+        match kind {
+            PayloadType::Sa => Payload::Sa(body),
+            PayloadType::Nonce => Payload::Nonce(body),
+            PayloadType::Notify => Payload::Notify(body),
+            PayloadType::Delete => Payload::Delete(body),
+            PayloadType::TsInitiator => Payload::TsInitiator(body),
+            PayloadType::TsResponder => Payload::TsResponder(body),
+        }
+    }
 }
 
-/// The bodies of the two traffic selectors that a chain consists of.
-fn selectors(chain: Chain<'_>) -> Option<(&[u8], &[u8])>
-    ensures { option_map selected result ≡ bodies (44 ∷ 45 ∷ []) chain.entry.kind chain.entry.octets.now }
-{
-    let Some((Payload::TsInitiator(tsi), chain)) = first(chain) else {
-        return None;
-    };
-    let Some((Payload::TsResponder(tsr), chain)) = first(chain) else {
-        return None;
-    };
-    if ends(chain) { Some((tsi, tsr)) } else { None }
-}
+impl<'a> Chain<'a> {
+    /// The first payload, and the chain behind it.
+    fn first(self) -> Option<(Payload<'a>, Chain<'a>)>
+        ensures split { option_map split_off result ≡ (if known self.entry.kind then opened self.entry.octets.now else None) }
+        ensures kind { IfSome result (λ p. type_before p ≡ self.entry.kind) }
+    {
+        let kind = PayloadType::try_from(self.kind).ok()?;
+        let (body, behind) = open(self.octets)?;
+        Some((Payload::new(kind, body), behind))
+    }
 
-/// The bodies of the offer that a chain consists of.
-pub(crate) fn whole_offer(chain: Chain<'_>) -> Option<Offer<'_>>
-    ensures { option_map offered result ≡ bodies offer_order chain.entry.kind chain.entry.octets.now }
-{
-    let Some((Payload::Sa(sa), chain)) = first(chain) else {
-        return None;
-    };
-    let Some((Payload::Nonce(nonce), chain)) = first(chain) else {
-        return None;
-    };
-    match selectors(chain) {
-        Some((tsi, tsr)) => Some(Offer {
+    /// Whether no payload is left.
+    pub(crate) fn ends(self) -> bool
+        ensures { result ≡ (self.entry.kind == 0 && length self.entry.octets.now == 0) }
+    {
+        self.kind == 0 && self.octets.is_empty()
+    }
+
+    /// The bodies of the offer that the chain consists of.
+    pub(crate) fn whole_offer(self) -> Option<Offer<'a>>
+        ensures { option_map offered result ≡ bodies offer_order self.entry.kind self.entry.octets.now }
+    {
+        // the patterns ask for the variants too, which `?` would not
+        let Some((Payload::Sa(sa), behind)) = self.first() else {
+            return None;
+        };
+        let Some((Payload::Nonce(nonce), behind)) = behind.first() else {
+            return None;
+        };
+        let Some((Payload::TsInitiator(tsi), behind)) = behind.first() else {
+            return None;
+        };
+        let Some((Payload::TsResponder(tsr), behind)) = behind.first() else {
+            return None;
+        };
+        behind.ends().then_some(Offer {
             sa,
             nonce,
             tsi,
             tsr,
-        }),
-        None => None,
+        })
     }
-}
 
-/// The bodies of the notification and the offer that a chain consists of.
-pub(crate) fn whole_rekey(chain: Chain<'_>) -> Option<(&[u8], Offer<'_>)>
-    ensures { option_map rekeyed result ≡ bodies rekey_order chain.entry.kind chain.entry.octets.now }
-{
-    let Some((Payload::Notify(notify), chain)) = first(chain) else {
-        return None;
-    };
-    match whole_offer(chain) {
-        Some(offer) => Some((notify, offer)),
-        None => None,
+    /// The bodies of the notification and the offer that the chain consists of.
+    pub(crate) fn whole_rekey(self) -> Option<(&'a [u8], Offer<'a>)>
+        ensures { option_map rekeyed result ≡ bodies rekey_order self.entry.kind self.entry.octets.now }
+    {
+        let Some((Payload::Notify(notify), behind)) = self.first() else {
+            return None;
+        };
+        Some((notify, behind.whole_offer()?))
     }
-}
 
-/// The body of the notification that a chain consists of.
-pub(crate) fn lone_notify(chain: Chain<'_>) -> Option<&[u8]>
-    ensures { option_map alone result ≡ bodies (41 ∷ []) chain.entry.kind chain.entry.octets.now }
-{
-    let Some((Payload::Notify(body), chain)) = first(chain) else {
-        return None;
-    };
-    if ends(chain) { Some(body) } else { None }
-}
-
-/// The body of the Delete payload that a chain consists of.
-pub(crate) fn lone_delete(chain: Chain<'_>) -> Option<&[u8]>
-    ensures { option_map alone result ≡ bodies (42 ∷ []) chain.entry.kind chain.entry.octets.now }
-{
-    let Some((Payload::Delete(body), chain)) = first(chain) else {
-        return None;
-    };
-    if ends(chain) { Some(body) } else { None }
+    /// The payload that the chain consists of.
+    pub(crate) fn lone(self) -> Option<Payload<'a>>
+        ensures { (t : ℕ) → known t ≡ true → lone_body t result ≡ bodies (t ∷ []) self.entry.kind self.entry.octets.now }
+    {
+        let (payload, behind) = self.first()?;
+        behind.ends().then_some(payload)
+    }
 }

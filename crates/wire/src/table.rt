@@ -1,12 +1,17 @@
 //! The octets of each payload behind its four opening octets, and what a body of such octets says.
-ghost use Rattle.std.specs.Prelude.{◌≡◌, [], ◌∷◌, if◌then◌else◌, Some, None};
+ghost use Rattle.std.specs.Prelude.{◌≡◌};
+ghost use Rattle.std.specs.List.{find};
 ghost use Rattle.std.specs.Str.{bytes_eq};
-ghost use Rattle.wire.specs.Payloads.{sa_body, ts_body, rekey_body, failure_body, delete_body, sa_in, rekeyed_in, deleted_in, not_found_in, failure_in};
+ghost use Rattle.wire.specs.Exact.{ValidFailure};
+ghost use Rattle.wire.specs.Payloads.{sa_body, ts_body, naming_body, failure_body, bare_failures, sa_in, named_in, failure_in};
 
 use crate::message::Failure;
-use octets::{same, u32_at};
+use crate::text::push;
+use arrayvec::ArrayVec;
+use octets::u32_at;
 
 /// The body of an SA payload: one ESP proposal with the sender's new SPI.
+#[tactic(auto, unfolding(crate::specs::Payloads::sa_body))]
 pub(crate) fn sa_body(spi: u32) -> [u8; 32]
     ensures { result ≡ sa_body spi }
 {
@@ -18,6 +23,7 @@ pub(crate) fn sa_body(spi: u32) -> [u8; 32]
 }
 
 /// The body of a traffic selector payload: all of IPv4.
+#[tactic(auto, unfolding(crate::specs::Payloads::ts_body))]
 pub(crate) fn ts_body() -> [u8; 20]
     ensures { result ≡ ts_body }
 {
@@ -27,106 +33,76 @@ pub(crate) fn ts_body() -> [u8; 20]
     ]
 }
 
-/// The body of the notification REKEY_SA.
-pub(crate) fn rekey_body(spi: u32) -> [u8; 8]
-    ensures { result ≡ rekey_body spi }
+/// What a payload names an SPI of ESP for, by the number in front of the SPI: the type of a
+/// notification, or in a Delete payload how many SPIs it names.
+#[derive(Clone, Copy)]
+pub(crate) enum Naming {
+    Rekeyed = 16393,
+    NotFound = 44,
+    Deleted = 1,
+}
+
+/// The body of a payload that names an SPI: ESP, SPIs of 4 octets, the number, the SPI.
+#[tactic(auto, using(crate::proofs::Namings::naming_written))]
+pub(crate) fn naming_body(naming: Naming, spi: u32) -> [u8; 8]
+    ensures { result ≡ naming_body naming spi }
 {
+    let number = naming as u16;
+    let [high, low] = number.to_be_bytes();
     let [a, b, c, d] = spi.to_be_bytes();
-    [0x03, 0x04, 0x40, 0x09, a, b, c, d]
+    [0x03, 0x04, high, low, a, b, c, d]
 }
 
-/// The body of a notification of this type that names no SPI.
-pub(crate) fn bare_body(kind: u8) -> [u8; 4]
-    ensures { result ≡ 0 ∷ 0 ∷ 0 ∷ kind ∷ [] }
+/// The body of an error notification, which names an SPI or none.
+#[tactic(auto, unfolding(crate::specs::Payloads::failure_body))]
+pub(crate) fn failure_body(failure: Failure) -> ArrayVec<u8, 8>
+    ensures octets { result.items ≡ failure_body failure }
+    ensures valid { ValidFailure failure }
 {
-    [0x00, 0x00, 0x00, kind]
-}
-
-/// The body of the notification CHILD_SA_NOT_FOUND.
-pub(crate) fn not_found_body(spi: u32) -> [u8; 8]
-    ensures { result ≡ failure_body (Failure.ChildSaNotFound spi) }
-{
-    let [a, b, c, d] = spi.to_be_bytes();
-    [0x03, 0x04, 0x00, 0x2C, a, b, c, d]
-}
-
-/// The body of a Delete payload.
-pub(crate) fn delete_body(spi: u32) -> [u8; 8]
-    ensures { result ≡ delete_body spi }
-{
-    let [a, b, c, d] = spi.to_be_bytes();
-    [0x03, 0x04, 0x00, 0x01, a, b, c, d]
-}
-
-/// The number, where the body is the one that a table has for it.
-fn where_same(body: &[u8], table: &[u8], x: u32) -> Option<u32>
-    ensures { result ≡ (if bytes_eq body.now table.now then Some x else None) }
-{
-    if same(body, table) { Some(x) } else { None }
+    let mut body = ArrayVec::new();
+    match failure {
+        Failure::NoProposalChosen => push(&mut body, &[0, 0, 0, 14]),
+        Failure::NoAdditionalSas => push(&mut body, &[0, 0, 0, 35]),
+        Failure::TemporaryFailure => push(&mut body, &[0, 0, 0, 43]),
+        Failure::ChildSaNotFound { spi } => push(&mut body, &naming_body(Naming::NotFound, spi)),
+    }
+    body
 }
 
 /// The SPI in the body of an SA payload.
 pub(crate) fn sa_in(body: &[u8]) -> Option<u32>
     ensures { result ≡ sa_in body.now }
 {
-    let Some(spi) = u32_at(body, 8) else {
-        return None;
-    };
-    where_same(body, &sa_body(spi), spi)
+    u32_at(body, 8).filter(|spi| body == sa_body(*spi).as_slice())
 }
 
-/// The SPI in the body of the notification REKEY_SA.
-pub(crate) fn rekeyed_in(body: &[u8]) -> Option<u32>
-    ensures { result ≡ rekeyed_in body.now }
+/// The SPI that a body names for this.
+pub(crate) fn named_in(naming: Naming, body: &[u8]) -> Option<u32>
+    ensures { result ≡ named_in naming body.now }
 {
-    let Some(spi) = u32_at(body, 4) else {
-        return None;
-    };
-    where_same(body, &rekey_body(spi), spi)
+    u32_at(body, 4).filter(|spi| body == naming_body(naming, *spi).as_slice())
 }
 
-/// The SPI in the body of a Delete payload.
-pub(crate) fn deleted_in(body: &[u8]) -> Option<u32>
-    ensures { result ≡ deleted_in body.now }
+/// The failure that the body of a notification says which names no SPI.
+fn bare_in(body: &[u8]) -> Option<Failure>
+    ensures { result ≡ find (λ bare. bytes_eq body.now (failure_body bare)) bare_failures }
 {
-    let Some(spi) = u32_at(body, 4) else {
-        return None;
-    };
-    where_same(body, &delete_body(spi), spi)
-}
-
-/// The SPI in the body of the notification CHILD_SA_NOT_FOUND.
-fn not_found_in(body: &[u8]) -> Option<u32>
-    ensures { result ≡ not_found_in body.now }
-{
-    let Some(spi) = u32_at(body, 4) else {
-        return None;
-    };
-    where_same(body, &not_found_body(spi), spi)
-}
-
-/// Whether a body is that of a notification of this type that names no SPI.
-fn is_bare(body: &[u8], kind: u8) -> bool
-    ensures { result ≡ bytes_eq body.now (0 ∷ 0 ∷ 0 ∷ kind ∷ []) }
-{
-    same(body, &bare_body(kind))
+    [
+        Failure::NoProposalChosen,
+        Failure::NoAdditionalSas,
+        Failure::TemporaryFailure,
+    ]
+    .iter()
+    .find(|bare| body == failure_body(**bare).as_slice())
+    .copied()
 }
 
 /// The failure that the body of a notification says.
+#[tactic(auto, unfolding(crate::specs::Payloads::failure_in))]
 pub(crate) fn failure_in(body: &[u8]) -> Option<Failure>
     ensures { result ≡ failure_in body.now }
 {
-    if is_bare(body, 14) {
-        return Some(Failure::NoProposalChosen);
-    }
-    if is_bare(body, 35) {
-        return Some(Failure::NoAdditionalSas);
-    }
-    if is_bare(body, 43) {
-        return Some(Failure::TemporaryFailure);
-    }
-    match not_found_in(body) {
-        Some(spi) => Some(Failure::ChildSaNotFound { spi }),
-        None => None,
-    }
+    bare_in(body).or_else(|| named_in(Naming::NotFound, body).map(|spi| Failure::ChildSaNotFound {
+        spi,
+    }))
 }

@@ -49,97 +49,66 @@ mod tests {
 
     #[test]
     fn reads_a_delete(rt: HostRuntime) -> Result<(), Fail> {
-        match decode(&delete_1000()) {
-            Ok(message) => {
-                assert_eq!(rt; message.initiator, 0x0102030405060708);
-                assert_eq!(rt; message.sender, Side::A);
-                assert_eq!(rt; message.id, 5);
-                match message.body {
-                    Body::Request(Request::Delete { spi }) => {
-                        assert_eq!(rt; spi, 1000);
-                        Ok(())
-                    },
-                    _ => Err(Fail::new("another message")),
-                }
-            }
-            Err(_) => Err(Fail::new("refused")),
-        }
+        let octets = delete_1000();
+        let message = decode(&octets)?;
+        assert_eq!(rt; message.initiator, 0x0102030405060708);
+        assert_eq!(rt; message.sender, Side::A);
+        assert_eq!(rt; message.id, 5);
+        let Body::Request(Request::Delete { spi }) = message.body else {
+            return Err(Fail::new("another message"));
+        };
+        assert_eq!(rt; spi, 1000);
+        Ok(())
     }
 
     #[test]
     fn refuses_another_length(rt: HostRuntime) -> Result<(), Fail> {
         let mut octets = delete_1000();
         octets[27] = 0x27;
-        match decode(&octets) {
-            Ok(_) => Err(Fail::new("taken")),
-            Err(refusal) => {
-                assert_eq!(rt; refusal.number(), 40);
-                Ok(())
-            },
-        }
+        let refusal = decode(&octets).err().ok_or("taken")?;
+        assert_eq!(rt; refusal.number(), 40);
+        Ok(())
     }
 
     #[test]
     fn writes_and_reads_back(rt: HostRuntime) -> Result<(), Fail> {
-        let Some(written) = rekey(0x44) else {
-            return Err(Fail::new("no nonce"));
-        };
+        let written = rekey(0x44).ok_or("no nonce")?;
         let mut out = [0xEE; 160];
-        let Ok(len) = written.encode(&mut out) else {
-            return Err(Fail::new("refused"));
-        };
+        let len = written.encode(&mut out)?;
         assert!(rt; len == 144);
         assert_eq!(rt; out[144], 0xEE);
-        match decode(&out[0..len]) {
-            Ok(message) => match message.body {
-                Body::Request(Request::Rekey { old, spi, nonce }) => {
-                    assert_eq!(rt; old, 1000);
-                    assert_eq!(rt; spi, 1001);
-                    assert!(rt; nonce == [0x44; 16].as_slice());
-                    Ok(())
-                }
-                _ => Err(Fail::new("another message")),
-            },
-            Err(_) => Err(Fail::new("refused")),
-        }
+        let message = decode(&out[0..len])?;
+        let Body::Request(Request::Rekey { old, spi, nonce }) = message.body else {
+            return Err(Fail::new("another message"));
+        };
+        assert_eq!(rt; old, 1000);
+        assert_eq!(rt; spi, 1001);
+        assert!(rt; nonce == [0x44; 16].as_slice());
+        Ok(())
     }
 
     #[test]
     fn a_short_buffer_stays(rt: HostRuntime) -> Result<(), Fail> {
-        let Some(message) = rekey(0x44) else {
-            return Err(Fail::new("no nonce"));
-        };
+        let message = rekey(0x44).ok_or("no nonce")?;
         let mut out = [0xEE; 143];
-        match message.encode(&mut out) {
-            Ok(_) => Err(Fail::new("written")),
-            Err(refusal) => {
-                assert_eq!(rt; refusal.number(), 45);
-                assert!(rt; out == [0xEE; 143]);
-                Ok(())
-            }
-        }
+        let refusal = message.encode(&mut out).err().ok_or("written")?;
+        assert_eq!(rt; refusal.number(), 45);
+        assert!(rt; out == [0xEE; 143]);
+        Ok(())
     }
 
     #[test]
     fn orders_nonces(rt: HostRuntime) -> Result<(), Fail> {
-        let Some(short) = sixteen(0x11) else {
-            return Err(Fail::new("no nonce"));
-        };
-        let Some(long) = Nonce::new(&[0x11; 17]) else {
-            return Err(Fail::new("no nonce"));
-        };
+        let short = sixteen(0x11).ok_or("no nonce")?;
+        let long = Nonce::new(&[0x11; 17]).ok_or("no nonce")?;
         assert!(rt; lower(&long, &short) == [0x11; 16].as_slice());
         Ok(())
     }
 
     #[test]
     fn finds_the_loser(rt: HostRuntime) -> Result<(), Fail> {
-        let Some(a) = exchanged(0x55, 0x77) else {
-            return Err(Fail::new("no nonce"));
-        };
-        let Some(b) = exchanged(0x66, 0x44) else {
-            return Err(Fail::new("no nonce"));
-        };
+        let a = exchanged(0x55, 0x77).ok_or("no nonce")?;
+        let b = exchanged(0x66, 0x44).ok_or("no nonce")?;
         assert_eq!(rt; loser(&a, &b), Side::B);
         assert_eq!(rt; loser(&b, &a), Side::A);
         assert_eq!(rt; loser(&a, &a), Side::A);
