@@ -81,6 +81,7 @@ fn create_response(chain: Chain<'_>) -> Result<Response<&[u8]>, DecodeRefusal>
         let (spi, nonce) = read_offer(offer)?;
         return Ok(Response::NewSa { spi, nonce });
     }
+    // the pattern asks for the variant too, which `?` would not
     let Some(Payload::Notify(notify)) = chain.lone() else {
         return Err(DecodeRefusal::Chain);
     };
@@ -96,6 +97,7 @@ fn informational(chain: Chain<'_>) -> Result<Option<u32>, DecodeRefusal>
     if chain.ends() {
         return Ok(None);
     }
+    // the pattern asks for the variant too, which `?` would not
     let Some(Payload::Delete(body)) = chain.lone() else {
         return Err(DecodeRefusal::Chain);
     };

@@ -155,6 +155,7 @@ impl<'a> Chain<'a> {
     pub(crate) fn whole_rekey(self) -> Option<(&'a [u8], Offer<'a>)>
         ensures { option_map rekeyed result ≡ bodies rekey_order self.entry.kind self.entry.octets.now }
     {
+        // the pattern asks for the variant too, which `?` would not
         let Some((Payload::Notify(notify), behind)) = self.first() else {
             return None;
         };
