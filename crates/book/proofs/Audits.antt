@@ -1,7 +1,6 @@
 -- What an audit says: where it finds no row alone, each row has its mirror in the other book.
 use Rattle.std.proofs.Common.{◌≡◌, ℕ, true, false, eqb, List, [], ◌∷◌, Some, None, Option, sym, refl, ap, ◌∙◌, inl, inr, arith}
 use Rattle.std.proofs.lemmas.Bool.{cases_Bool, and_parts, not-true, eq-eqb, ne_eqb}
-use Rattle.book.specs.declared.audit.Finding.TheVariants.{AllMirrored}
 use Rattle.book.specs.declared.row.Row.{Row}
 use Rattle.book.specs.Rows.{is_opening, Mirror}
 use Rattle.book.specs.Shelves.{Shelf, Rising, lookup}
@@ -58,14 +57,14 @@ alone_some j (x ∷ rs) others r h e =
           (own_found x r rs f, ap (has_mirror others) (sym f) ∙ m)
     ]
 
-verdict_all : (p q : Option Row) → verdict p q ≡ AllMirrored → (p ≡ None) × (q ≡ None)
+verdict_all : (p q : Option Row) → verdict p q ≡ None → (p ≡ None) × (q ≡ None)
 verdict_all None None e = (refl, refl)
 verdict_all None (Some r) e = let z : ◌≡◌ {A = ℕ} 0 1 = cc in absurd (omega arith)
 verdict_all (Some r) q e = let z : ◌≡◌ {A = ℕ} 0 1 = cc in absurd (omega arith)
 
 -- All mirrored: each row of either has in the other the row that is its mirror.
 pub all_mirrored :
-    (a b : Shelf) → audited a b ≡ AllMirrored →
+    (a b : Shelf) → audited a b ≡ None →
     ((k : ℕ) (r : Row) → lookup a.rows k ≡ Some r → (x : Row) × (lookup b.rows r.peer ≡ Some x) × Mirror r x)
     × ((k : ℕ) (r : Row) → lookup b.rows k ≡ Some r → (x : Row) × (lookup a.rows r.peer ≡ Some x) × Mirror r x)
 all_mirrored a b e =

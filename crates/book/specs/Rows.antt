@@ -6,6 +6,7 @@ use Rattle.book.specs.declared.row.Beginner.TheVariants.{ThisEnd, Peer}
 use Rattle.book.specs.declared.row.KeptNonce.{KeptNonce}
 use Rattle.book.specs.declared.row.Row.{Row}
 use Rattle.book.specs.declared.row.RowState.{RowState}
+use Rattle.book.specs.declared.row.Spis.{Spis}
 use Rattle.book.specs.declared.row.RowState.TheVariants.{Opening, Fresh, Standing, Superseded, Closing}
 
 -- the number of each state
@@ -35,6 +36,13 @@ kept s = record { octets = s ++ replicate (32 - length s) 0; len = length s }
 -- the responder's nonce: none while the row is Opening
 abbrev pub nr_octets : Row → List ℕ
 nr_octets r = cond (is_opening r.state) [] (kept_octets r.nr)
+
+-- the SPIs of a row's SA, and a pair of SPIs as the peer has it
+abbrev pub spis : Row → Spis
+spis r = record { own = r.own; peer = r.peer }
+
+abbrev pub swapped : Spis → Spis
+swapped s = record { own = s.peer; peer = s.own }
 
 -- the SPIs of two rows are exchanged, and those of their parents
 abbrev pub exchanged : Row → Row → Bool

@@ -3,8 +3,6 @@ use Rattle.std.specs.Prelude.{ℕ, ◌<◌, ◌≤◌, Bool, cond, not, ◌&&◌
 use Rattle.book.specs.declared.row.Row.{Row}
 use Rattle.book.specs.declared.BookRefusal.{BookRefusal}
 use Rattle.book.specs.declared.BookRefusal.TheVariants.{Reserved, Present, Full, Absent}
-use Rattle.book.specs.declared.wanted.Wanted.{Wanted}
-use Rattle.book.specs.declared.wanted.Wanted.TheVariants.{WithPeer, Above}
 use Rattle.book.specs.Rows.{is_opening}
 
 -- the rows, and how many there can be
@@ -64,11 +62,6 @@ find rs p = first (shows p) rs
 
 abbrev pub next : List Row → ℕ → Option ℕ
 next rs k = first (beyond k) rs
-
--- which row is wanted
-abbrev pub fits : Wanted → Row → Bool
-fits (WithPeer p) = shows p
-fits (Above k) = beyond k
 
 -- the rows above an own SPI
 abbrev pub after : List Row → ℕ → List Row

@@ -8,7 +8,6 @@ use row::Row;
 
 pub mod audit;
 pub mod row;
-pub mod wanted;
 
 /// Why a book turns a call down; as a number, that of the rule.
 #[derive(Clone, Copy, PartialEq, Eq, Debug)]
