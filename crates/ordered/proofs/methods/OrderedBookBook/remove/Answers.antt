@@ -1,29 +1,19 @@
-use Rattle.std.proofs.Common.{sym, rules}
-use Rattle.book.proofs.Changes.{remove_absent, remove_made}
-use Rattle.ordered.specs.Shelved.{shelved, ordered_rows}
-use Rattle.ordered.proofs.Filed.{filed_out, rises_out, long_out, has_index}
+use Rattle.std.proofs.Common.{rules, arith}
+use Rattle.ordered.proofs.Filed.{filed_out, out_none}
 use Rattle.ordered.proofs.methods.OrderedBookBook.remove.Goals as goal
+
+pub returns-in_err-i : goal.returns-in_err-i
+returns-in_err-i c = let e = out_none _ c.args.self.now.rows.items c.args.own c.in_err-i.ensures.value in search rules
 
 pub invariant_of-self : goal.invariant_of-self
 invariant_of-self c =
     let b = c.args.self.now in
-    let e =
-    filed_out b.places c.rotate_left.new.self b.count c.in-Some.i c.args.own (search rules)
-    c.in-Some.ensures.within c.in-Some.ensures.value c.rotate_left.ensures.len c.rotate_left.ensures.by_index.0 in
     record {
-      most = search rules;
-      long = long_out b.places c.rotate_left.new.self _ _ b.long c.rotate_left.ensures.len;
-      ok = rises_out _ _ c.args.own e b.ok;
+      most = omega (arith, b.most, c.remove.ensures.len);
+      ok = rw c.remove.ensures.items (filed_out _ b.rows.items c.args.own c.in_ok-i.i b.ok c.in_ok-i.ensures.value).0;
     }
 
-pub returns-in-Some : goal.returns-in-Some
-returns-in-Some c =
+pub returns : goal.returns
+returns c =
     let b = c.args.self.now in
-    remove_made (shelved b) c.args.own _ (has_index (ordered_rows b) c.args.own _ c.in-Some.ensures.value)
-    (filed_out b.places c.rotate_left.new.self b.count c.in-Some.i c.args.own (search rules)
-    c.in-Some.ensures.within c.in-Some.ensures.value c.rotate_left.ensures.len c.rotate_left.ensures.by_index.0)
-
-pub returns-in-None : goal.returns-in-None
-returns-in-None c =
-    let b = c.args.self.now in
-    sym (remove_absent (shelved b) c.args.own (has_index (ordered_rows b) c.args.own _ c.in-None.ensures.value))
+    rw c.remove.ensures.items (filed_out _ b.rows.items c.args.own c.in_ok-i.i b.ok c.in_ok-i.ensures.value).1
