@@ -1,36 +1,20 @@
--- A search for the place of an item, a step at a time, and what a place that was found says.
-use Rattle.std.proofs.Common.{◌≡◌, ℕ, suc, ◌+◌, ◌<◌, ◌≤◌, Bool, true, false, List, [], ◌∷◌, length, get_or, drop, Some, None, Option, refl, ap, ◌∙◌, inl, inr, arith}
-use Rattle.std.proofs.lemmas.List.{drop_more, drop_all}
-use Rattle.std.proofs.lemmas.Bool.{cases_Bool}
+-- What a place that was found says.
+use Rattle.std.proofs.Common.{◌≡◌, ℕ, suc, ◌+◌, Bool, true, cond, ltb, List, [], ◌∷◌, length, get_or, position, Some, None, Option, refl, ap, ◌∙◌, inl, inr, arith}
+use Rattle.std.specs.List.{position_or_len}
+use Rattle.std.proofs.lemmas.Bool.{cases_Bool, cases_lt, lt-ltb, le-ltb}
+use Rattle.std.proofs.lemmas.Bool.Decides.{nat_tests}
 use Rattle.std.specs.Option.{option_map}
 use Rattle.book.specs.Places.{place_where}
 
--- a place in what is left of a list, as a place in the list
-abbrev pub shifted : ℕ → Option ℕ → Option ℕ
-shifted i o = option_map (λ n. n + i) o
+later : (m n : ℕ) → cond (ltb (1 + m) (suc n)) (Some (1 + m)) None ≡ option_map suc (cond (ltb m n) (Some m) None)
+later m n = elim (cases_lt m n) [ inl l ↦ rw (lt-ltb m n l, lt-ltb (1 + m) (suc n) (omega arith)) (ap (λ k. Some k) (omega arith)) | inr l ↦ rw (le-ltb m n l, le-ltb (1 + m) (suc n) (omega arith)) refl ]
 
-pub shifted_none : (o : Option ℕ) → shifted 0 o ≡ o
-shifted_none None = refl
-shifted_none (Some n) = ap (λ m. Some m) (omega arith)
-
-shifted_more : (i : ℕ) (o : Option ℕ) → shifted i (option_map suc o) ≡ shifted (i + 1) o
-shifted_more i None = refl
-shifted_more i (Some n) = ap (λ m. Some m) (omega arith)
-
-pub place_here :
-    {X : Type 0} (q : X → Bool) (xs : List X) (i : ℕ) (d : X) → i < length xs → q (get_or xs i d) ≡ true →
-    shifted i (place_where q (drop i xs)) ≡ Some i
-place_here q xs i d l t =
-    ap (λ ys. shifted i (place_where q ys)) (drop_more xs i d l) ∙ rw t (ap (λ m. Some m) (omega arith))
-
-pub place_more :
-    {X : Type 0} (q : X → Bool) (xs : List X) (i : ℕ) (d : X) → i < length xs → q (get_or xs i d) ≡ false →
-    shifted i (place_where q (drop i xs)) ≡ shifted (i + 1) (place_where q (drop (i + 1) xs))
-place_more q xs i d l t =
-    ap (λ ys. shifted i (place_where q ys)) (drop_more xs i d l) ∙ rw t (shifted_more i (place_where q (drop (i + 1) xs)))
-
-pub place_all : {X : Type 0} (q : X → Bool) (xs : List X) (i : ℕ) → length xs ≤ i → shifted i (place_where q (drop i xs)) ≡ None
-place_all q xs i l = ap (λ ys. shifted i (place_where q ys)) (drop_all i xs l)
+-- what `position` gives
+pub place_position : {X : Type 0} (q : X → Bool) (xs : List X) → position q xs ≡ place_where q xs
+place_position q [] = refl
+place_position q (x ∷ xs) =
+    let ih = place_position q xs in
+    elim (cases_Bool (q x)) [ inl t ↦ rw t (grind (arith, nat_tests)) | inr t ↦ rw (t, ← ih) (later (position_or_len q xs) (length xs)) ]
 
 -- a place behind the first item
 pub one_less : (o : Option ℕ) (i : ℕ) → Some i ≡ option_map suc o → (j : ℕ) × (i ≡ suc j) × (Some j ≡ o)

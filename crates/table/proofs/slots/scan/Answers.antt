@@ -1,26 +1,12 @@
-use Rattle.std.proofs.Common.{sym, ◌∙◌, arith}
-use Rattle.book.proofs.Places.{shifted_none, place_here, place_more, place_all}
-use Rattle.table.specs.Slots.{holds, place_in}
+use Rattle.std.proofs.Common.{◌∙◌, rules, tests}
+use Rattle.std.proofs.lemmas.Iterator.{YieldsList-from_slice}
+use Rattle.std.proofs.lemmas.Iterator.Search.{position_from_yields_List}
+use Rattle.book.proofs.Places.{place_position}
+use Rattle.table.specs.Slots.{holds}
 use Rattle.table.proofs.slots.scan.Goals as goal
 
-pub loop-i-init : goal.loop-i-init
-loop-i-init c = shifted_none (place_in c.args.slots.now c.args.own)
-
-pub returns-then-holds : goal.returns-then-holds
-returns-then-holds c = record {
-  value =
-      sym (place_here (λ o. holds o c.args.own) c.args.slots.now c.loop-i.i _ (omega arith) (sym c.holds.ensures ∙ c.if-holds.true))
-      ∙ c.loop-i.invariant;
-  within = omega arith;
-}
-
-pub loop-i-preserved : goal.loop-i-preserved
-loop-i-preserved c =
-    sym (place_more (λ o. holds o c.args.own) c.args.slots.now c.loop-i.i _ (omega arith) (sym c.holds.ensures ∙ c.if-holds.false))
-    ∙ c.loop-i.invariant
-
-pub returns : goal.returns
-returns c = record {
-  value = sym (place_all (λ o. holds o c.args.own) c.args.slots.now c.loop-i.i (omega arith)) ∙ c.loop-i.invariant;
-  within = tt;
-}
+pub returns-clause-value : goal.returns-clause-value
+returns-clause-value c =
+    position_from_yields_List (λ o. holds o c.args.own) _ _ c.position.result c.position.ensures.ran (YieldsList-from_slice c.args.slots.now (cc))
+    (λ x b f k. (search rules, search (rules, tests)))
+    ∙ place_position (λ o. holds o c.args.own) c.args.slots.now
