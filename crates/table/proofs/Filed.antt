@@ -4,11 +4,11 @@ use Rattle.std.specs.Option.{ok_or}
 use Rattle.book.specs.declared.row.Row.{Row}
 use Rattle.book.specs.declared.BookRefusal.{BookRefusal}
 use Rattle.book.specs.declared.BookRefusal.TheVariants.{Present, Full, Absent}
-use Rattle.book.specs.Shelves.{Shelf, Answer, lookup, has, row_or, put_in, written_in, removed_from, read_in}
+use Rattle.book.specs.Shelves.{Shelf, Answer, has, row_or, put_in, written_in, removed_from, read_in}
 use Rattle.book.proofs.Changes.{put_present, put_full, put_made, write_absent, write_made, remove_absent, remove_made}
 use Rattle.table.specs.Slots.{Slots, sorted_rows, used, seek, apart, place_of, free_from, home}
 use Rattle.table.specs.Seeking.{none_from, apart_parts}
-use Rattle.table.specs.Sorting.{lookup_sorted, has_sorted, length_sorted, used_within, seek_slot, sorted_put, sorted_write, sorted_remove}
+use Rattle.table.specs.Sorting.{lookup_sorted, has_sorted, length_sorted, used_some, used_within, seek_slot, sorted_put, sorted_write, sorted_remove}
 use Rattle.table.proofs.Placing.{place_holds, place_none, free_is, full}
 
 -- the slots as a book, and a change that leaves these slots apart
@@ -75,7 +75,7 @@ one_free [] i l e = absurd (omega arith)
 one_free (None ∷ s) zero l e = omega (arith, used_within s)
 one_free (Some r ∷ s) zero l e = let z : ◌≡◌ {A = ℕ} 0 1 = cc in absurd (omega arith)
 one_free (None ∷ s) (suc i) l e = omega (arith, one_free s i (omega arith) e)
-one_free (Some r ∷ s) (suc i) l e = omega (arith, one_free s i (omega arith) e)
+one_free (Some r ∷ s) (suc i) l e = omega (arith, used_some r s, one_free s i (omega arith) e)
 
 pub filed_in :
     {E : Type 0} (e : E) (s : Slots) (x : Row) (o f : Option ℕ) (i : ℕ) → apart s ≡ true → length s ≡ 16 → 255 < x.own → o ≡ place_of s x.own →

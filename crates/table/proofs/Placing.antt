@@ -1,5 +1,5 @@
 -- Slots by place: the searches, a step at a time, and what a place that was found says.
-use Rattle.std.proofs.Common.{◌≡◌, ℕ, zero, suc, ◌+◌, ◌-◌, ◌%◌, ◌<◌, ◌≤◌, Bool, true, false, cond, not, Bor, List, [], ◌∷◌, length, get_or, min, map, filter, find, fold, is_some, Some, None, Option, sym, refl, ap, ◌∙◌, subst, inl, inr, arith}
+use Rattle.std.proofs.Common.{◌≡◌, ℕ, zero, suc, ◌+◌, ◌-◌, ◌%◌, ◌<◌, Bool, true, false, cond, not, Bor, List, [], ◌∷◌, length, get_or, min, map, filter, find, fold, is_some, Some, None, Option, sym, refl, ap, ◌∙◌, subst, inl, inr, arith}
 use Rattle.std.specs.List.{range_with_len, flat_map, reduce}
 use Rattle.std.specs.Iterator.Adapters.{option_iter_steps, option_iter_item, option_iter_done}
 use Rattle.std.specs.Bool.{MatchBool}
@@ -11,16 +11,18 @@ use Rattle.std.proofs.lemmas.List.{get_or_past}
 use Rattle.std.proofs.lemmas.Bool.{cases_Bool, cases_lt, eqb-true}
 use Rattle.std.proofs.lemmas.Bool.Decides.{nat_tests}
 use Rattle.book.specs.declared.row.Row.{Row}
-use Rattle.book.proofs.Places.{no_less, place_passes}
-use Rattle.table.specs.Slots.{Slots, used, holds, seek, place_in, place_of, home, free_from, lower, lowest}
+use Rattle.book.specs.Places.{place_where}
+use Rattle.book.proofs.Places.{place_position, no_less, place_passes}
+use Rattle.table.specs.Slots.{Slots, used, holds, seek, place_of, home, free_from, lower, lowest}
 use Rattle.table.specs.Seeking.{none_from}
+use Rattle.table.specs.Sorting.{used_some}
 
-scan_none : (s : Slots) (k : ℕ) → None ≡ place_in s k → seek s k ≡ None
+scan_none : (s : Slots) (k : ℕ) → None ≡ place_where (λ o. holds o k) s → seek s k ≡ None
 scan_none [] k e = refl
 scan_none (o ∷ s) k e =
     elim (cases_Bool (holds o k)) [
       | inl t ↦ absurd (grind arith)
-      | inr t ↦ rw t (scan_none s k (no_less (place_in s k) (rw t at e)))
+      | inr t ↦ rw t (scan_none s k (no_less (place_where (λ o. holds o k) s) (rw t at e)))
     ]
 
 -- the slot at a place that was found
@@ -41,7 +43,7 @@ place_holds s k i e =
     let h : holds (get_or s i None) k ≡ true =
     elim (cases_Bool (holds (get_or s (home k) None) k)) [
       | inl t ↦ let z : i ≡ home k = grind arith in rw z t
-      | inr t ↦ place_passes (λ o. holds o k) s i None (rw t at e)
+      | inr t ↦ place_passes (λ o. holds o k) s i None (rw t at e ∙ place_position (λ o. holds o k) s)
     ] in
     let p = held (get_or s i None) k h in
     (p.0, p.1, p.2, held_within s i p.0 p.1)
@@ -50,7 +52,7 @@ pub place_none : (s : Slots) (k : ℕ) → None ≡ place_of s k → seek s k �
 place_none s k e =
     elim (cases_Bool (holds (get_or s (home k) None) k)) [
       | inl t ↦ absurd (grind arith)
-      | inr t ↦ scan_none s k (rw t at e)
+      | inr t ↦ scan_none s k (rw t at e ∙ place_position (λ o. holds o k) s)
     ]
 
 -- the places of a chain, from j steps on
@@ -92,7 +94,7 @@ free_none s h (suc n) (suc j) e l =
 used_all : (s : Slots) → ((i : ℕ) → i < length s → is_some (get_or s i None) ≡ true) → used s ≡ length s
 used_all [] h = refl
 used_all (None ∷ s) h = let f = h 0 (omega arith) in let z : ◌≡◌ {A = ℕ} 0 1 = cc in absurd (omega arith)
-used_all (Some r ∷ s) h = omega (arith, used_all s (λ i l. h (suc i) (omega arith)))
+used_all (Some r ∷ s) h = omega (arith, used_some r s, used_all s (λ i l. h (suc i) (omega arith)))
 
 -- where there is no free place, all are used
 pub full : (s : Slots) (h : ℕ) → length s ≡ 16 → h < 16 → None ≡ free_from s h 16 → used s ≡ 16
@@ -135,11 +137,6 @@ slot_road o it e d = subst (YieldsList option_iter_steps (λ (y : Bor Row). y.no
 -- the rows of the slots, in the order of the slots
 abbrev pub rows_of : Slots → List Row
 rows_of s = flat_map option_to_list s
-
-pub used_rows : (s : Slots) → length (rows_of s) ≡ used s
-used_rows [] = refl
-used_rows (None ∷ s) = used_rows s
-used_rows (Some r ∷ s) = omega (arith, used_rows s)
 
 -- the least of numbers, a number at a time
 fold_min : (x y : ℕ) (ys : List ℕ) → fold min (min x y) ys ≡ min x (fold min y ys)

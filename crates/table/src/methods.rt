@@ -4,7 +4,7 @@ ghost use Rattle.std.specs.Fn.{FnReturnsAt};
 ghost use Rattle.std.specs.Option.{ok_or};
 ghost use Rattle.book.specs.Shelves.{empty_shelf};
 ghost use Rattle.book.specs.declared.row.Row.{Row};
-ghost use Rattle.table.specs.Slots.{home, holds, place_of, free_from, lowest};
+ghost use Rattle.table.specs.Slots.{home, holds, place_of, free_from, used, lowest};
 ghost use Rattle.table.specs.Shelved.{shelved, table_orderly};
 
 use crate::slots::{holds, home, scan};
@@ -60,6 +60,13 @@ impl TableBook {
             .find(|i| self.slots[*i].is_none())
     }
 
+    /// How many slots hold a row.
+    fn used(&self) -> usize
+        ensures { result ≡ used self.now.slots }
+    {
+        self.slots.iter().filter(|slot| slot.is_some()).count()
+    }
+
     /// The lowest own SPI of a row that passes a test.
     fn lowest<F: Fn(&Row) -> bool>(&self, test: F) -> Option<u32>
         requires { F.IsAlwaysCallable test }
@@ -80,7 +87,7 @@ impl Book for TableBook {
     ghost orderly = { table_orderly };
 
     fn len(&self) -> usize {
-        self.slots.iter().flatten().count()
+        self.used()
     }
 
     fn capacity(&self) -> usize {

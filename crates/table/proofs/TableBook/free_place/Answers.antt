@@ -13,7 +13,7 @@ returns-clause-value c =
     let h = c.home-start.result in
     sym (option_map_id c.find.result)
     ∙ find_from_yields_List (λ i. not (is_some (get_or s i None))) _ _ c.find.result c.find.ensures.ran
-      (YieldsList-from_map _ (λ k. (h + k) % 16) (YieldsList-at c.map.ensures.source (YieldsList-from_range 0 16 16 (search rules) (omega arith)))
-      c.map.ensures.closure (λ x r q k. (search rules, search (rules, tests))))
-      (λ x b q k. (search rules, search (rules, tests)))
+    (YieldsList-from_map _ (λ k. (h + k) % 16) (YieldsList-at c.map.ensures.source (YieldsList-from_range 0 16 16 (search rules) (omega arith)))
+    c.map.ensures.closure (λ x r q k. (search rules, search (rules, tests))))
+    (λ x b q k. (search rules, search (rules, tests)))
     ∙ free_found s h 0 16 ∙ ap (λ m. free_from s m 16) (omega arith)

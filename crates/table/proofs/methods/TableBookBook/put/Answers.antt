@@ -1,6 +1,4 @@
-use Rattle.std.proofs.Common.{sym, ap, ◌∙◌, arith, rules}
-use Rattle.std.specs.Option.{ok_or}
-use Rattle.table.specs.Slots.{home}
+use Rattle.std.proofs.Common.{arith, rules}
 use Rattle.table.proofs.Filed.{put_there, put_none, filed_in}
 use Rattle.table.proofs.methods.TableBookBook.put.Goals as goal
 
