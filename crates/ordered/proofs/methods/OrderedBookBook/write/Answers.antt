@@ -1,11 +1,16 @@
-use Rattle.std.proofs.Common.{ap, length, set, rules, arith}
+use Rattle.std.proofs.Common.{refl, ap, length, set, rules, arith}
 use Rattle.std.proofs.lemmas.List.{length-set}
 use Rattle.arrayvec.proofs.ArrayVecLemmas.{items-with_items}
-use Rattle.ordered.proofs.Filed.{filed_over, over_none}
+use Rattle.book.proofs.Changes.{write_refused}
+use Rattle.ordered.specs.Shelved.{shelved}
+use Rattle.ordered.proofs.Filed.{filed_over, has_index}
 use Rattle.ordered.proofs.methods.OrderedBookBook.write.Goals as goal
 
 pub returns-in_err-i : goal.returns-in_err-i
-returns-in_err-i c = let e = over_none _ c.args.self.now.rows.items c.args.row c.in_err-i.ensures.value in search rules
+returns-in_err-i c =
+    let b = c.args.self.now in
+    let e = write_refused (shelved b) c.args.row.own _ _ (has_index b.rows.items c.args.row.own) c.in_err-i.ensures.value c.args.row refl in
+    search rules
 
 pub invariant_of-self : goal.invariant_of-self
 invariant_of-self c =

@@ -1,32 +1,34 @@
-use Rattle.std.proofs.Common.{arith, rules}
-use Rattle.table.proofs.Filed.{put_there, put_none, filed_in}
+use Rattle.std.proofs.Common.{ap, is_some, sym, ◌∙◌, arith, rules}
+use Rattle.book.proofs.Changes.{put_present}
+use Rattle.table.specs.Shelved.{shelved}
+use Rattle.table.proofs.Filed.{has_place, put_none, filed_in}
 use Rattle.table.proofs.methods.TableBookBook.put.Goals as goal
 
 pub returns-then-is_some : goal.returns-then-is_some
 returns-then-is_some c =
     let b = c.args.self.now in
-    put_there b.slots c.args.row c.place.result b.ok (omega arith) c.place.ensures.value (search rules)
+    let there = has_place b.slots c.args.row.own b.ok ∙ sym (ap is_some c.place.ensures.value) ∙ sym c.is_some.ensures ∙ c.if-is_some.true in
+    sym (put_present (shelved b) c.args.row (omega arith) there)
 
 pub returns-in_err-free : goal.returns-in_err-free
 returns-in_err-free c =
     let b = c.args.self.now in
-    let e =
-    put_none _ b.slots c.args.row c.place.result c.free_place.result b.ok b.long (omega arith) c.place.ensures.value (search rules)
-    c.free_place.ensures.value c.in_err-free.ensures.value in
+    let no = has_place b.slots c.args.row.own b.ok ∙ sym (ap is_some c.place.ensures.value) ∙ sym c.is_some.ensures ∙ c.if-is_some.false in
+    let e = put_none _ b.slots c.args.row c.free_place.result b.long (omega arith) no c.free_place.ensures.value c.in_err-free.ensures.value in
     search rules
 
 pub invariant_of-self : goal.invariant_of-self
 invariant_of-self c =
     let b = c.args.self.now in
-    record {
-      long = search rules;
-      ok =
-          (filed_in _ b.slots c.args.row c.place.result c.free_place.result c.in_ok-free.free b.ok b.long (omega arith) c.place.ensures.value
-          (search rules) c.free_place.ensures.value c.in_ok-free.ensures.value (search rules)).0;
-    }
+    let no = has_place b.slots c.args.row.own b.ok ∙ sym (ap is_some c.place.ensures.value) ∙ sym c.is_some.ensures ∙ c.if-is_some.false in
+    let f =
+    filed_in _ b.slots c.args.row c.free_place.result c.in_ok-free.free b.ok b.long (omega arith) no
+    c.free_place.ensures.value c.in_ok-free.ensures.value (search rules) in
+    record { long = search rules; ok = f.0 }
 
 pub returns : goal.returns
 returns c =
     let b = c.args.self.now in
-    (filed_in _ b.slots c.args.row c.place.result c.free_place.result c.in_ok-free.free b.ok b.long (omega arith) c.place.ensures.value
-    (search rules) c.free_place.ensures.value c.in_ok-free.ensures.value (search rules)).1
+    let no = has_place b.slots c.args.row.own b.ok ∙ sym (ap is_some c.place.ensures.value) ∙ sym c.is_some.ensures ∙ c.if-is_some.false in
+    (filed_in _ b.slots c.args.row c.free_place.result c.in_ok-free.free b.ok b.long (omega arith) no
+    c.free_place.ensures.value c.in_ok-free.ensures.value (search rules)).1

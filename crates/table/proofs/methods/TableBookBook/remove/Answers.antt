@@ -1,9 +1,14 @@
 use Rattle.std.proofs.Common.{rules}
-use Rattle.table.proofs.Filed.{filed_out, out_none}
+use Rattle.book.proofs.Changes.{remove_refused}
+use Rattle.table.specs.Shelved.{shelved}
+use Rattle.table.proofs.Filed.{filed_out, has_place}
 use Rattle.table.proofs.methods.TableBookBook.remove.Goals as goal
 
 pub returns-in_err-i : goal.returns-in_err-i
-returns-in_err-i c = let e = out_none _ c.args.self.now.slots c.args.own c.args.self.now.ok c.in_err-i.ensures.value in search rules
+returns-in_err-i c =
+    let b = c.args.self.now in
+    let e = remove_refused (shelved b) c.args.own _ _ (has_place b.slots c.args.own b.ok) c.in_err-i.ensures.value in
+    search rules
 
 pub invariant_of-self : goal.invariant_of-self
 invariant_of-self c =

@@ -1,9 +1,14 @@
-use Rattle.std.proofs.Common.{rules}
-use Rattle.table.proofs.Filed.{filed_over, over_none}
+use Rattle.std.proofs.Common.{refl, rules}
+use Rattle.book.proofs.Changes.{write_refused}
+use Rattle.table.specs.Shelved.{shelved}
+use Rattle.table.proofs.Filed.{filed_over, has_place}
 use Rattle.table.proofs.methods.TableBookBook.write.Goals as goal
 
 pub returns-in_err-i : goal.returns-in_err-i
-returns-in_err-i c = let e = over_none _ c.args.self.now.slots c.args.row c.args.self.now.ok c.in_err-i.ensures.value in search rules
+returns-in_err-i c =
+    let b = c.args.self.now in
+    let e = write_refused (shelved b) c.args.row.own _ _ (has_place b.slots c.args.row.own b.ok) c.in_err-i.ensures.value c.args.row refl in
+    search rules
 
 pub invariant_of-self : goal.invariant_of-self
 invariant_of-self c =
