@@ -68,10 +68,6 @@ abbrev pub after : List Row → ℕ → List Row
 after [] k = []
 after (r ∷ rs) k = cond (nat_lt k r.own) (r ∷ rs) (after rs k)
 
-abbrev pub front : List Row → Option Row
-front [] = None
-front (r ∷ rs) = Some r
-
 -- A change is refused, and then all is as it was, or it leaves these rows.
 abbrev pub Answer : Type 0
 Answer = Result (Unit {0}) BookRefusal

@@ -1,7 +1,8 @@
 //! The audit of two books: whether each row of either has its mirror in the other.
 ghost use Rattle.std.specs.Prelude.{◌≡◌};
+ghost use Rattle.std.specs.Iterator.{YieldsFirst, item_count};
 ghost use Rattle.book.specs.Audits.{has_mirror, alone, audited};
-ghost use Rattle.book.specs.Shelves.{after, front};
+ghost use Rattle.book.specs.Shelves.{after};
 
 use crate::Book;
 use crate::row::Row;
@@ -21,26 +22,32 @@ fn has_mirror<B: Book>(row: &Row, book: &B) -> bool
     !row.state.is_opening() && book.read(row.peer).is_ok_and(|other| row.mirrors(&other))
 }
 
-/// The first row of a book above an own SPI.
-fn row_after<B: Book>(book: &B, own: u32) -> Option<Row>
-    ensures { result ≡ front (after (B.Book.shelf book.now).rows own) }
-{
-    let next = book.next(own)?;
-    book.read(next).ok()
+/// The rows of a book by rising own SPI, from above the last own SPI on.
+#[derive(Drop)]
+struct Rows<'a, B> {
+    book: &'a B,
+    last: u32,
+}
+
+impl<'a, B: Book> Iterator for Rows<'a, B> {
+    type Item = Row;
+
+    ghost next_gives = { YieldsFirst (λ s. after (B.Book.shelf s.book.now).rows s.last) };
+
+    ghost remaining = { item_count (λ s. after (B.Book.shelf s.book.now).rows s.last) };
+
+    fn next(&mut self) -> Option<Row> {
+        let own = self.book.next(self.last)?;
+        self.last = own;
+        self.book.read(own).ok()
+    }
 }
 
 /// The first row of a book, by rising own SPI, that has no mirror in another.
 fn first_alone<P: Book, Q: Book>(book: &P, other: &Q) -> Option<Row>
     ensures { result ≡ alone (P.Book.shelf book.now).rows (Q.Book.shelf other.now).rows }
 {
-    let mut last = 0;
-    while let Some(row) = row_after(book, last) {
-        if !has_mirror(&row, other) {
-            return Some(row);
-        }
-        last = row.own;
-    }
-    None
+    Rows { book, last: 0 }.find(|row| !has_mirror(row, other))
 }
 
 /// The first row of either book that has no mirror in the other: of A's by rising own SPI, then of B's. Nothing where each
