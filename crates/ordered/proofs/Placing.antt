@@ -8,7 +8,7 @@ use Rattle.std.proofs.lemmas.Bool.Decides.{nat_tests}
 use Rattle.std.proofs.lemmas.Cmp.{ranked}
 use Rattle.book.specs.declared.row.Row.{Row}
 use Rattle.book.specs.Shelves.{Rising, first}
-use Rattle.ordered.specs.Found.{rises_rising}
+use Rattle.ordered.specs.Found.{rises_rising, index_cons}
 use Rattle.ordered.specs.Places.{rises, index_of, room}
 
 -- every row of rows that rise from above j is above j, and none is above a later one
@@ -27,10 +27,10 @@ climbs j (r ∷ rs) (suc a) (suc b) d h l m = climbs r.own rs a b d h.1 (omega a
 -- the row at i has the own SPI
 index_at : (j : ℕ) (rs : List Row) (k i : ℕ) → Rising j rs → i < length rs → ((d : Row) → (get_or rs i d).own ≡ k) → index_of rs k ≡ Some i
 index_at j [] k i h l e = absurd (omega arith)
-index_at j (r ∷ rs) k zero h l e = let t : eqb r.own k ≡ true = eq-eqb _ _ (e r) in rw t refl
+index_at j (r ∷ rs) k zero h l e = let t : eqb r.own k ≡ true = eq-eqb _ _ (e r) in index_cons r rs k ∙ rw t refl
 index_at j (r ∷ rs) k (suc i) h l e =
     let t = ne_eqb r.own k (λ q. omega (arith, e r, above r.own rs i r h.1 (omega arith))) in
-    rw (t, index_at r.own rs k i h.1 (omega arith) e) refl
+    index_cons r rs k ∙ rw (t, index_at r.own rs k i h.1 (omega arith) e) refl
 
 -- the rows before i are below the own SPI, and the others above it
 gap_at :
@@ -41,13 +41,13 @@ gap_at (r ∷ rs) k zero l b u =
     let f = u 0 r (omega arith) (omega arith) in
     let t = ne_eqb r.own k (λ q. omega arith) in
     let ih = gap_at rs k 0 (omega arith) (λ a d m. absurd (omega arith)) (λ a d m n. u (suc a) d (omega arith) (omega arith)) in
-    (rw (t, ih.0) refl, rw (lt-ltb _ _ f) refl)
+    (index_cons r rs k ∙ rw (t, ih.0) refl, rw (lt-ltb _ _ f) refl)
 gap_at (r ∷ rs) k (suc i) l b u =
     let f = b 0 r (omega arith) in
     let t = ne_eqb r.own k (λ q. omega arith) in
     let ih = gap_at rs k i (omega arith) (λ a d m. b (suc a) d (omega arith)) (λ a d m n. u (suc a) d (omega arith) (omega arith)) in
     let w : ltb k r.own ≡ false = le-ltb _ _ (omega arith) in
-    (rw (t, ih.0) refl, rw w (omega (arith, ih.1)))
+    (index_cons r rs k ∙ rw (t, ih.0) refl, rw w (omega (arith, ih.1)))
 
 ranks : (rs : List Row) (k : ℕ) → Rising 255 rs → IsNonDecreasingBy (λ r. ordering_index (nat_cmp r.own k)) rs
 ranks rs k h a b d l m = let c = climbs 255 rs a b d h l m in grind (arith, nat_tests)

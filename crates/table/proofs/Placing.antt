@@ -11,18 +11,18 @@ use Rattle.std.proofs.lemmas.List.{get_or_past}
 use Rattle.std.proofs.lemmas.Bool.{cases_Bool, cases_lt, eqb-true}
 use Rattle.std.proofs.lemmas.Bool.Decides.{nat_tests}
 use Rattle.book.specs.declared.row.Row.{Row}
-use Rattle.book.specs.Places.{place_where}
-use Rattle.book.proofs.Places.{place_position, no_less, place_passes}
-use Rattle.table.specs.Slots.{Slots, used, holds, seek, place_of, home, free_from, lower, lowest}
+use Rattle.book.proofs.Places.{position_cons, no_less, place_passes}
+use Rattle.table.specs.Slots.{Slots, used, holds, seek, place_in, place_of, home, free_from, lower, lowest}
 use Rattle.table.specs.Seeking.{none_from}
 use Rattle.table.specs.Sorting.{used_some}
 
-scan_none : (s : Slots) (k : ℕ) → None ≡ place_where (λ o. holds o k) s → seek s k ≡ None
+scan_none : (s : Slots) (k : ℕ) → None ≡ place_in s k → seek s k ≡ None
 scan_none [] k e = refl
 scan_none (o ∷ s) k e =
+    let f = e ∙ position_cons (λ x. holds x k) o s in
     elim (cases_Bool (holds o k)) [
-      | inl t ↦ absurd (grind arith)
-      | inr t ↦ rw t (scan_none s k (no_less (place_where (λ o. holds o k) s) (rw t at e)))
+      | inl t ↦ let g : None ≡ Some 0 = rw t at f in let z : ◌≡◌ {A = ℕ} 0 1 = cc in absurd (omega arith)
+      | inr t ↦ rw t (scan_none s k (no_less (place_in s k) (rw t at f)))
     ]
 
 -- the slot at a place that was found
@@ -43,7 +43,7 @@ place_holds s k i e =
     let h : holds (get_or s i None) k ≡ true =
     elim (cases_Bool (holds (get_or s (home k) None) k)) [
       | inl t ↦ let z : i ≡ home k = grind arith in rw z t
-      | inr t ↦ place_passes (λ o. holds o k) s i None (rw t at e ∙ place_position (λ o. holds o k) s)
+      | inr t ↦ place_passes (λ o. holds o k) s i None (rw t at e)
     ] in
     let p = held (get_or s i None) k h in
     (p.0, p.1, p.2, held_within s i p.0 p.1)
@@ -52,7 +52,7 @@ pub place_none : (s : Slots) (k : ℕ) → None ≡ place_of s k → seek s k �
 place_none s k e =
     elim (cases_Bool (holds (get_or s (home k) None) k)) [
       | inl t ↦ absurd (grind arith)
-      | inr t ↦ scan_none s k (rw t at e ∙ place_position (λ o. holds o k) s)
+      | inr t ↦ scan_none s k (rw t at e)
     ]
 
 -- the places of a chain, from j steps on
