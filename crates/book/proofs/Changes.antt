@@ -10,7 +10,7 @@ use Rattle.book.proofs.Lookups.{rising_insert, rising_replace, rising_remove, le
 
 none_is : (o : Option Row) → is_some o ≡ false → o ≡ None
 none_is None h = refl
-none_is (Some r) h = let z : ◌≡◌ {A = ℕ} 0 1 = cc in absurd (omega arith)
+none_is (Some r) h = cc
 
 -- a row that is not there is not found
 has_none : (rs : List Row) (k : ℕ) → has rs k ≡ false → lookup rs k ≡ None
@@ -69,12 +69,12 @@ remove_made s k new h e = ap (left s) e ∙ sym (remove_done s k h)
 
 -- a search by `ok_or`: the place that it gave, or none and the refusal
 pub ok_is : {A E : Type 0} (o : Option A) (e : E) (x : A) → Ok x ≡ ok_or o e → Some x ≡ o
-ok_is None e x h = let z : ◌≡◌ {A = ℕ} 0 1 = cc in absurd (omega arith)
+ok_is None e x h = cc
 ok_is (Some y) e x h = cc
 
 pub err_is : {A E : Type 0} (o : Option A) (e d : E) → Err d ≡ ok_or o e → (None ≡ o) × (d ≡ e)
 err_is None e d h = (cc, cc)
-err_is (Some y) e d h = let z : ◌≡◌ {A = ℕ} 0 1 = cc in absurd (omega arith)
+err_is (Some y) e d h = cc
 
 -- where such a search for the row of an own SPI gave none, the row is not there, and each call that needs it is refused
 module _ (s : Shelf) (k : ℕ) (o : Option ℕ) (e : BookRefusal) (h : has s.rows k ≡ is_some o) (r : Err e ≡ ok_or o Absent) where

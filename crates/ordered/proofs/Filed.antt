@@ -24,7 +24,7 @@ has_index rs k = has_at rs k (index_of rs k) refl
   where
     has_at : (rs : List Row) (k : ℕ) (o : Option ℕ) → o ≡ index_of rs k → has rs k ≡ is_some o
     has_at rs k None e = ap is_some (index_absent rs k e)
-    has_at [] k (Some i) e = let z : ◌≡◌ {A = ℕ} 0 1 = cc in absurd (omega arith)
+    has_at [] k (Some i) e = cc
     has_at (r ∷ rs) k (Some i) e = ap is_some (index_lookup (r ∷ rs) k i r e)
 
 there : {E : Type 0} (e : E) (rs : List Row) (k i : ℕ) → Ok i ≡ ok_or (index_of rs k) e → has rs k ≡ true
@@ -50,8 +50,7 @@ pub filed_in :
     Files (put_at rs i x) (put_in (shelf rs) x)
 filed_in rs x i s l m h =
     let f = lacking _ i rs x.own h in
-    let e : put_at rs i x ≡ insert rs x = ap (λ (j : ℕ). put_at rs j x) (err_is _ _ i h).1 ∙ sym (insert_at rs x) in
-    (
+    let e : put_at rs i x ≡ insert rs x = ap (λ (j : ℕ). put_at rs j x) (err_is _ _ i h).1 ∙ sym (insert_at rs x) in (
       ap (rises 255) e ∙ rising_rises 255 (insert rs x) (rising_insert 255 rs x l f (rises_rising 255 rs s)),
       put_made (shelf rs) x (put_at rs i x) (omega arith) f m e,
     )
@@ -60,8 +59,7 @@ pub filed_over :
     {E : Type 0} (e : E) (rs : List Row) (x : Row) (i : ℕ) → rises 255 rs ≡ true → Ok i ≡ ok_or (index_of rs x.own) e →
     Files (set rs i x) (written_in (shelf rs) x)
 filed_over d rs x i s h =
-    let e : set rs i x ≡ replace rs x = sym (replace_at rs x i (ok_is _ d i h)) in
-    (
+    let e : set rs i x ≡ replace rs x = sym (replace_at rs x i (ok_is _ d i h)) in (
       ap (rises 255) e ∙ rising_rises 255 (replace rs x) (rising_replace 255 rs x (rises_rising 255 rs s)),
       write_made (shelf rs) x (set rs i x) (there d rs x.own i h) e,
     )
@@ -70,8 +68,7 @@ pub filed_out :
     {E : Type 0} (e : E) (rs : List Row) (k i : ℕ) → rises 255 rs ≡ true → Ok i ≡ ok_or (index_of rs k) e →
     Files (taken_at rs i) (removed_from (shelf rs) k)
 filed_out d rs k i s h =
-    let e : taken_at rs i ≡ remove rs k = sym (remove_at rs k i (ok_is _ d i h)) in
-    (
+    let e : taken_at rs i ≡ remove rs k = sym (remove_at rs k i (ok_is _ d i h)) in (
       ap (rises 255) e ∙ rising_rises 255 (remove rs k) (rising_remove 255 rs k (rises_rising 255 rs s)),
       remove_made (shelf rs) k (taken_at rs i) (there d rs k i h) e,
     )

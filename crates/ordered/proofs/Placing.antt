@@ -66,7 +66,7 @@ searched rs k (Err i) h l e =
 mapped :
     (found : Option (Bor Row)) (P : Bor Row → ℕ → Type 0) (r : Option ℕ) (y : Row) → option_map (λ x. x.now) found ≡ Some y →
     MatchOption found (r ≡ None) (λ x. IsSomeAnd r (P x)) → ((x : Bor Row) (k : ℕ) → P x k → k ≡ x.now.own) → r ≡ Some y.own
-mapped None P r y e m h = let z : ◌≡◌ {A = ℕ} 0 1 = cc in absurd (omega arith)
+mapped None P r y e m h = cc
 mapped (Some x) P None y e m h = absurd m
 mapped (Some x) P (Some k) y e m h = let f : x.now ≡ y = cc in ap (λ n. Some n) (h x k m ∙ ap (λ (z : Row). z.own) f)
 
@@ -75,7 +75,7 @@ pub first_is :
     (q : Row → Bool) (rs : List Row) (found : Option (Bor Row)) (P : Bor Row → ℕ → Type 0) (r : Option ℕ) → option_map (λ x. x.now) found ≡ find q rs →
     MatchOption found (r ≡ None) (λ x. IsSomeAnd r (P x)) → ((x : Bor Row) (k : ℕ) → P x k → k ≡ x.now.own) → r ≡ first q rs
 first_is q [] None P r e m h = m
-first_is q [] (Some x) P r e m h = let z : ◌≡◌ {A = ℕ} 0 1 = cc in absurd (omega arith)
+first_is q [] (Some x) P r e m h = cc
 first_is q (y ∷ rs) found P r e m h =
     elim (cases_Bool (q y)) [
       | inl t ↦ rw t (mapped found P r y (rw t at e) m h)

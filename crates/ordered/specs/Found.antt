@@ -1,5 +1,5 @@
 -- What a place that was found says of the rows, and what a change at it does to them.
-use Rattle.std.specs.Prelude.{◌≡◌, ◌≤◌, ℕ, suc, true, cond, List, [], ◌∷◌, ◌++◌, length, take, drop, Some, None, ◌==◌, nat_eq, nat_lt, slice_index_or, slice_set, refl}
+use Rattle.std.specs.Prelude.{◌≡◌, ◌≤◌, ℕ, suc, true, cond, List, [], ◌∷◌, ◌++◌, length, take, drop, Some, None, Option, ◌==◌, nat_eq, nat_lt, slice_index_or, slice_set, refl}
 use Rattle.std.proofs.Common.{ap, ◌∙◌, inl, inr, arith}
 use Rattle.std.specs.Option.{option_map}
 use Rattle.std.proofs.lemmas.List.{length-take}
@@ -25,7 +25,7 @@ pub index_cons : (r : Row) (rs : List Row) (k : ℕ) → index_of (r ∷ rs) k �
 index_cons r rs k = position_cons (λ (x : Row). nat_eq x.own k) r rs
 
 pub index_lookup : (rs : List Row) (k i : ℕ) (d : Row) → Some i ≡ index_of rs k → lookup rs k ≡ Some (slice_index_or rs i d)
-index_lookup [] k i d e = let z : ◌≡◌ {A = ℕ} 0 1 = cc in absurd (omega arith)
+index_lookup [] k i d e = cc
 index_lookup (r ∷ rs) k i d e =
     let f = e ∙ index_cons r rs k in
     elim (cases_Bool (r.own == k)) [
@@ -38,7 +38,7 @@ index_absent [] k e = refl
 index_absent (r ∷ rs) k e =
     let f = e ∙ index_cons r rs k in
     elim (cases_Bool (r.own == k)) [
-      | inl t ↦ let g : None ≡ Some 0 = rw t at f in let z : ◌≡◌ {A = ℕ} 0 1 = cc in absurd (omega arith)
+      | inl t ↦ let g : ◌≡◌ {A = Option ℕ} None (Some 0) = rw t at f in cc
       | inr t ↦ rw t (index_absent rs k (no_less (index_of rs k) (rw t at f)))
     ]
 
@@ -52,7 +52,7 @@ replace_at (r ∷ rs) x i e =
     ]
 
 pub remove_at : (rs : List Row) (k i : ℕ) → Some i ≡ index_of rs k → remove rs k ≡ take i rs ++ drop (suc i) rs
-remove_at [] k i e = let z : ◌≡◌ {A = ℕ} 0 1 = cc in absurd (omega arith)
+remove_at [] k i e = cc
 remove_at (r ∷ rs) k i e =
     let f = e ∙ index_cons r rs k in
     elim (cases_Bool (r.own == k)) [

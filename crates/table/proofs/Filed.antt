@@ -46,8 +46,8 @@ put_none e s x f m l absent g h =
 
 -- no row has a reserved own SPI
 slot_above : (s : Slots) (i : ℕ) (r : Row) → apart s ≡ true → get_or s i None ≡ Some r → 255 < r.own
-slot_above [] i r a e = let z : ◌≡◌ {A = ℕ} 0 1 = cc in absurd (omega arith)
-slot_above (None ∷ s) zero r a e = let z : ◌≡◌ {A = ℕ} 0 1 = cc in absurd (omega arith)
+slot_above [] i r a e = cc
+slot_above (None ∷ s) zero r a e = cc
 slot_above (Some y ∷ s) zero r a e = let f : y ≡ r = cc in omega (arith, (apart_parts y s a).0, ap (λ (x : Row). x.own) f)
 slot_above (None ∷ s) (suc i) r a e = slot_above s i r a e
 slot_above (Some y ∷ s) (suc i) r a e = slot_above s i r (apart_parts y s a).2 e
@@ -55,7 +55,7 @@ slot_above (Some y ∷ s) (suc i) r a e = slot_above s i r (apart_parts y s a).2
 one_free : (s : Slots) (i : ℕ) → i < length s → get_or s i None ≡ None → used s < length s
 one_free [] i l e = absurd (omega arith)
 one_free (None ∷ s) zero l e = omega (arith, used_within s)
-one_free (Some r ∷ s) zero l e = let z : ◌≡◌ {A = ℕ} 0 1 = cc in absurd (omega arith)
+one_free (Some r ∷ s) zero l e = cc
 one_free (None ∷ s) (suc i) l e = omega (arith, one_free s i (omega arith) e)
 one_free (Some r ∷ s) (suc i) l e = omega (arith, used_some r s, one_free s i (omega arith) e)
 

@@ -21,13 +21,13 @@ scan_none [] k e = refl
 scan_none (o ∷ s) k e =
     let f = e ∙ position_cons (λ x. holds x k) o s in
     elim (cases_Bool (holds o k)) [
-      | inl t ↦ let g : None ≡ Some 0 = rw t at f in let z : ◌≡◌ {A = ℕ} 0 1 = cc in absurd (omega arith)
+      | inl t ↦ let g : ◌≡◌ {A = Option ℕ} None (Some 0) = rw t at f in cc
       | inr t ↦ rw t (scan_none s k (no_less (place_in s k) (rw t at f)))
     ]
 
 -- the slot at a place that was found
 held : (o : Option Row) (k : ℕ) → holds o k ≡ true → (r : Row) × (o ≡ Some r) × (r.own ≡ k)
-held None k t = let z : ◌≡◌ {A = ℕ} 0 1 = cc in absurd (omega arith)
+held None k t = cc
 held (Some r) k t = (r, refl, eqb-true _ _ t)
 
 -- a slot that holds a row is one of the list's
@@ -35,7 +35,7 @@ held_within : (s : Slots) (i : ℕ) (r : Row) → get_or s i None ≡ Some r →
 held_within s i r e =
     elim (cases_lt i (length s)) [
       | inl l ↦ l
-      | inr l ↦ let n = get_or_past s i None l in let z : ◌≡◌ {A = ℕ} 0 1 = cc in absurd (omega arith)
+      | inr l ↦ let n = get_or_past s i None l in cc
     ]
 
 pub place_holds : (s : Slots) (k i : ℕ) → Some i ≡ place_of s k → (r : Row) × (get_or s i None ≡ Some r) × (r.own ≡ k) × (i < length s)
@@ -68,7 +68,7 @@ free_found s h j (suc n) =
 
 pub free_is : (s : Slots) (h n i : ℕ) → Some i ≡ free_from s h n → get_or s i None ≡ None
 unfolding free_from
-free_is s h zero i e = let z : ◌≡◌ {A = ℕ} 0 1 = cc in absurd (omega arith)
+free_is s h zero i e = cc
 free_is s h (suc n) i e =
     elim (cases_Bool (is_some (get_or s (h % 16) None))) [
       | inl t ↦ free_is s (h + 1) n i (rw t at e)
@@ -93,7 +93,7 @@ free_none s h (suc n) (suc j) e l =
 
 used_all : (s : Slots) → ((i : ℕ) → i < length s → is_some (get_or s i None) ≡ true) → used s ≡ length s
 used_all [] h = refl
-used_all (None ∷ s) h = let f = h 0 (omega arith) in let z : ◌≡◌ {A = ℕ} 0 1 = cc in absurd (omega arith)
+used_all (None ∷ s) h = let f = h 0 (omega arith) in cc
 used_all (Some r ∷ s) h = omega (arith, used_some r s, used_all s (λ i l. h (suc i) (omega arith)))
 
 -- where there is no free place, all are used
@@ -114,12 +114,12 @@ shown it = cond (option_iter_done it) [] (option_to_list (option_iter_item it))
 none_left : (done : Bool) (o : Option Row) (P : Type 0) → MatchBool done P (None ≡ o) → length (cond done [] (option_to_list o)) ≡ 0
 none_left true o P m = refl
 none_left false None P m = refl
-none_left false (Some r) P m = let z : ◌≡◌ {A = ℕ} 0 1 = cc in absurd (omega arith)
+none_left false (Some r) P m = cc
 
 one_left :
     (done ends : Bool) (o p : Option Row) (x : Bor Row) → ends ≡ true → MatchBool done (Some x ≡ None) (Some x.now ≡ o) →
     cond done [] (option_to_list o) ≡ x.now ∷ cond ends [] (option_to_list p)
-one_left true ends o p x e m = let z : ◌≡◌ {A = ℕ} 0 1 = cc in absurd (omega arith)
+one_left true ends o p x e m = cc
 one_left false ends o p x e m = rw (e, ← m) refl
 
 shows_none : (s t : OptionIter Row) → option_iter_steps s None t → length (shown s) ≡ 0

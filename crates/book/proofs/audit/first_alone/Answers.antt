@@ -14,7 +14,7 @@ returns g c =
     let others = (g.Q.Book.shelf c.args.other.now).rows in
     sym (option_map_id c.find.result)
     ∙ find_from_yields_List (λ r. not (has_mirror others r)) c.find.new.self _ c.find.result c.find.ensures.ran
-      (YieldsList-from_first (λ x. x) (λ s. after (g.P.Book.shelf s.book.now).rows s.last) (after rs 0) refl)
-      (λ x b q k. (search rules, search (rules, tests)))
+    (YieldsList-from_first (λ x. x) (λ s. after (g.P.Book.shelf s.book.now).rows s.last) (after rs 0) refl)
+    (λ x b q k. (search rules, search (rules, tests)))
     ∙ alone_find (after rs 0) others
     ∙ ap (λ (ys : _). alone ys others) (after_all 255 0 rs (omega arith) (g.met.P.Book.orderly c.args.book.now).rises)
