@@ -1,7 +1,6 @@
 -- What an audit says: where it finds no row alone, each row has its mirror in the other book.
 use Rattle.std.proofs.Common.{◌≡◌, ℕ, true, false, eqb, List, [], ◌∷◌, Some, None, Option, sym, refl, ap, ◌∙◌, inl, inr, arith}
 use Rattle.std.proofs.lemmas.Bool.{cases_Bool, and_parts, not-true, eq-eqb, ne_eqb}
-use Rattle.book.specs.declared.audit.Finding.TheVariants.{AllMirrored}
 use Rattle.book.specs.declared.row.Row.{Row}
 use Rattle.book.specs.Rows.{is_opening, Mirror}
 use Rattle.book.specs.Shelves.{Shelf, Rising, lookup}
@@ -11,7 +10,7 @@ use Rattle.book.proofs.Firsts.{above_start}
 
 -- a row that has its mirror
 mirror_found : (o : Option Row) (r : Row) → mirrored_by o r ≡ true → (x : Row) × (o ≡ Some x) × Mirror r x
-mirror_found None r t = let z : ◌≡◌ {A = ℕ} 0 1 = cc in absurd (omega arith)
+mirror_found None r t = cc
 mirror_found (Some x) r t = (x, refl, mirrors_true r x t)
 
 pub has_mirror_is :
@@ -24,7 +23,7 @@ has_mirror_is rs r t =
 
 -- where none is alone, all have their mirrors
 pub alone_none : (rs others : List Row) (k : ℕ) (r : Row) → alone rs others ≡ None → lookup rs k ≡ Some r → has_mirror others r ≡ true
-alone_none [] others k r n e = let z : ◌≡◌ {A = ℕ} 0 1 = cc in absurd (omega arith)
+alone_none [] others k r n e = cc
 alone_none (x ∷ rs) others k r n e =
     elim (cases_Bool (has_mirror others x)) [
       | inl m ↦
@@ -32,7 +31,7 @@ alone_none (x ∷ rs) others k r n e =
             | inl t ↦ let s : Some x ≡ Some r = rw t at e in let f : x ≡ r = cc in ap (has_mirror others) (sym f) ∙ m
             | inr t ↦ alone_none rs others k r (rw m at n) (rw t at e)
           ]
-      | inr m ↦ let f : Some x ≡ None = rw m at n in let z : ◌≡◌ {A = ℕ} 0 1 = cc in absurd (omega arith)
+      | inr m ↦ let f : Some x ≡ None = rw m at n in cc
     ]
 
 own_found : (x r : Row) (rs : List Row) → x ≡ r → lookup (x ∷ rs) r.own ≡ Some r
@@ -44,7 +43,7 @@ own_found x r rs f =
 pub alone_some :
     (j : ℕ) (rs others : List Row) (r : Row) → Rising j rs → alone rs others ≡ Some r →
     (lookup rs r.own ≡ Some r) × (has_mirror others r ≡ false)
-alone_some j [] others r h e = let z : ◌≡◌ {A = ℕ} 0 1 = cc in absurd (omega arith)
+alone_some j [] others r h e = cc
 alone_some j (x ∷ rs) others r h e =
     elim (cases_Bool (has_mirror others x)) [
       | inl m ↦
@@ -58,14 +57,14 @@ alone_some j (x ∷ rs) others r h e =
           (own_found x r rs f, ap (has_mirror others) (sym f) ∙ m)
     ]
 
-verdict_all : (p q : Option Row) → verdict p q ≡ AllMirrored → (p ≡ None) × (q ≡ None)
+verdict_all : (p q : Option Row) → verdict p q ≡ None → (p ≡ None) × (q ≡ None)
 verdict_all None None e = (refl, refl)
-verdict_all None (Some r) e = let z : ◌≡◌ {A = ℕ} 0 1 = cc in absurd (omega arith)
-verdict_all (Some r) q e = let z : ◌≡◌ {A = ℕ} 0 1 = cc in absurd (omega arith)
+verdict_all None (Some r) e = cc
+verdict_all (Some r) q e = cc
 
 -- All mirrored: each row of either has in the other the row that is its mirror.
 pub all_mirrored :
-    (a b : Shelf) → audited a b ≡ AllMirrored →
+    (a b : Shelf) → audited a b ≡ None →
     ((k : ℕ) (r : Row) → lookup a.rows k ≡ Some r → (x : Row) × (lookup b.rows r.peer ≡ Some x) × Mirror r x)
     × ((k : ℕ) (r : Row) → lookup b.rows k ≡ Some r → (x : Row) × (lookup a.rows r.peer ≡ Some x) × Mirror r x)
 all_mirrored a b e =

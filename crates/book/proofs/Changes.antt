@@ -1,10 +1,20 @@
 -- What each change of a book answers and leaves, case by case.
-use Rattle.std.proofs.Common.{◌≡◌, ℕ, ◌<◌, ◌≤◌, true, false, ltb, leb, List, length, Ok, Err, sym, refl, ap, ◌∙◌, inl, inr, arith}
+use Rattle.std.proofs.Common.{◌≡◌, ℕ, ◌<◌, ◌≤◌, true, false, ltb, leb, List, length, is_some, Some, None, Ok, Err, Option, sym, refl, ap, ◌∙◌, inl, inr, arith}
+use Rattle.std.specs.Option.{ok_or}
 use Rattle.std.proofs.lemmas.Bool.{cases_Bool, cases_lt, lt-ltb, le-ltb, le-leb, lt-leb}
 use Rattle.book.specs.declared.row.Row.{Row}
+use Rattle.book.specs.declared.BookRefusal.{BookRefusal}
 use Rattle.book.specs.declared.BookRefusal.TheVariants.{Reserved, Present, Full, Absent}
-use Rattle.book.specs.Shelves.{Shelf, Orderly, Answer, has, insert, replace, remove, put_in, written_in, removed_from, empty_shelf}
+use Rattle.book.specs.Shelves.{Shelf, Orderly, Answer, lookup, has, insert, replace, remove, put_in, written_in, removed_from, read_in, empty_shelf}
 use Rattle.book.proofs.Lookups.{rising_insert, rising_replace, rising_remove, length_insert, length_replace, length_remove}
+
+none_is : (o : Option Row) → is_some o ≡ false → o ≡ None
+none_is None h = refl
+none_is (Some r) h = cc
+
+-- a row that is not there is not found
+has_none : (rs : List Row) (k : ℕ) → has rs k ≡ false → lookup rs k ≡ None
+has_none rs k h = none_is (lookup rs k) h
 
 pub put_reserved : (s : Shelf) (x : Row) → x.own < 256 → put_in s x ≡ (Err Reserved, s)
 put_reserved s x l = let t : ltb x.own 256 ≡ true = lt-ltb _ _ l in rw t refl
@@ -56,6 +66,29 @@ pub remove_made :
     (s : Shelf) (k : ℕ) (new : List Row) → has s.rows k ≡ true → new ≡ remove s.rows k →
     (Ok tt, record { rows = new; most = s.most }) ≡ removed_from s k
 remove_made s k new h e = ap (left s) e ∙ sym (remove_done s k h)
+
+-- a search by `ok_or`: the place that it gave, or none and the refusal
+pub ok_is : {A E : Type 0} (o : Option A) (e : E) (x : A) → Ok x ≡ ok_or o e → Some x ≡ o
+ok_is None e x h = cc
+ok_is (Some y) e x h = cc
+
+pub err_is : {A E : Type 0} (o : Option A) (e d : E) → Err d ≡ ok_or o e → (None ≡ o) × (d ≡ e)
+err_is None e d h = (cc, cc)
+err_is (Some y) e d h = cc
+
+-- where such a search for the row of an own SPI gave none, the row is not there, and each call that needs it is refused
+module _ (s : Shelf) (k : ℕ) (o : Option ℕ) (e : BookRefusal) (h : has s.rows k ≡ is_some o) (r : Err e ≡ ok_or o Absent) where
+  lacks : has s.rows k ≡ false
+  lacks = h ∙ sym (ap is_some (err_is o Absent e r).0)
+
+  pub read_refused : Err e ≡ read_in s k
+  read_refused = rw ((err_is o Absent e r).1, has_none s.rows k lacks) refl
+
+  pub remove_refused : (Err e, s) ≡ removed_from s k
+  remove_refused = rw (err_is o Absent e r).1 (sym (remove_absent s k lacks))
+
+  pub write_refused : (x : Row) → x.own ≡ k → (Err e, s) ≡ written_in s x
+  write_refused x f = rw ((err_is o Absent e r).1) (sym (write_absent s x (ap (has s.rows) f ∙ lacks)))
 
 -- each change leaves an orderly book
 pub empty_orderly : (n : ℕ) → Orderly (empty_shelf n)

@@ -9,7 +9,7 @@ use Rattle.book.proofs.Lookups.{lookup_own}
 
 -- a row in rows that rise from above j is above j
 pub above_start : (j : ℕ) (rs : List Row) (k : ℕ) (x : Row) → Rising j rs → lookup rs k ≡ Some x → j < k
-above_start j [] k x h e = let z : ◌≡◌ {A = ℕ} 0 1 = cc in absurd (omega arith)
+above_start j [] k x h e = cc
 above_start j (r ∷ rs) k x h e =
     elim (cases_Bool (eqb r.own k)) [
       | inl t ↦ omega (arith, h.0, eqb-true r.own k t)
@@ -18,7 +18,7 @@ above_start j (r ∷ rs) k x h e =
 
 -- where no row is the first, none passes
 pub first_none : (q : Row → Bool) (rs : List Row) (k : ℕ) (x : Row) → first q rs ≡ None → lookup rs k ≡ Some x → q x ≡ false
-first_none q [] k x n e = let z : ◌≡◌ {A = ℕ} 0 1 = cc in absurd (omega arith)
+first_none q [] k x n e = cc
 first_none q (r ∷ rs) k x n e =
     elim (cases_Bool (q r)) [
       | inl p ↦ absurd (grind arith)
@@ -31,7 +31,7 @@ first_none q (r ∷ rs) k x n e =
 
 -- a first row is there, and passes
 pub first_some : (q : Row → Bool) (j : ℕ) (rs : List Row) (k : ℕ) → Rising j rs → first q rs ≡ Some k → (x : Row) × (lookup rs k ≡ Some x) × (q x ≡ true)
-first_some q j [] k h e = let z : ◌≡◌ {A = ℕ} 0 1 = cc in absurd (omega arith)
+first_some q j [] k h e = cc
 first_some q j (r ∷ rs) k h e =
     elim (cases_Bool (q r)) [
       | inl p ↦ (r, grind (arith, nat_tests), p)
@@ -44,7 +44,7 @@ first_some q j (r ∷ rs) k h e =
 
 -- and no lower row passes
 pub first_least : (q : Row → Bool) (j : ℕ) (rs : List Row) (k m : ℕ) (x : Row) → Rising j rs → first q rs ≡ Some k → lookup rs m ≡ Some x → q x ≡ true → k ≤ m
-first_least q j [] k m x h e f p = let z : ◌≡◌ {A = ℕ} 0 1 = cc in absurd (omega arith)
+first_least q j [] k m x h e f p = cc
 first_least q j (r ∷ rs) k m x h e f p =
     elim (cases_Bool (q r)) [
       | inl s ↦
@@ -104,7 +104,7 @@ after_none (r ∷ rs) k e =
     ]
 
 pub after_step : (j : ℕ) (rs : List Row) (k n : ℕ) (x : Row) → Rising j rs → next rs k ≡ Some n → lookup rs n ≡ Some x → after rs k ≡ x ∷ after rs n
-after_step j [] k n x h e f = let z : ◌≡◌ {A = ℕ} 0 1 = cc in absurd (omega arith)
+after_step j [] k n x h e f = cc
 after_step j (r ∷ rs) k n x h e f =
     elim (cases_Bool (ltb k r.own)) [
       | inl t ↦

@@ -1,7 +1,7 @@
 -- The audit of two books.
 use Rattle.std.specs.Prelude.{Bool, false, cond, not, ◌&&◌, List, [], ◌∷◌, Some, None, Option}
-use Rattle.book.specs.declared.audit.Finding.{Finding}
-use Rattle.book.specs.declared.audit.Finding.TheVariants.{AllMirrored, AloneInA, AloneInB}
+use Rattle.nonce.specs.declared.side.Side.TheVariants.{A, B}
+use Rattle.book.specs.declared.audit.Alone.{Alone}
 use Rattle.book.specs.declared.row.Row.{Row}
 use Rattle.book.specs.Rows.{is_opening, mirrors}
 use Rattle.book.specs.Shelves.{Shelf, lookup}
@@ -19,10 +19,11 @@ abbrev pub alone : List Row → List Row → Option Row
 alone [] others = None
 alone (r ∷ rs) others = cond (has_mirror others r) (alone rs others) (Some r)
 
-abbrev pub verdict : Option Row → Option Row → Finding
-verdict (Some r) o = AloneInA r
-verdict None (Some r) = AloneInB r
-verdict None None = AllMirrored
+-- the row that is alone in A's book, else that in B's; nothing where there is none
+abbrev pub verdict : Option Row → Option Row → Option Alone
+verdict (Some r) o = Some (record { side = A; row = r })
+verdict None (Some r) = Some (record { side = B; row = r })
+verdict None None = None
 
-abbrev pub audited : Shelf → Shelf → Finding
+abbrev pub audited : Shelf → Shelf → Option Alone
 audited a b = verdict (alone a.rows b.rows) (alone b.rows a.rows)

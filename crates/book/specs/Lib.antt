@@ -1,4 +1,3 @@
 pub mod Rows
 pub mod Shelves
 pub mod Audits
-pub mod Places

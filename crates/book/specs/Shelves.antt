@@ -1,10 +1,8 @@
 -- What a book means: its rows by rising own SPI, and what each question and each change does to them.
-use Rattle.std.specs.Prelude.{ℕ, ◌<◌, ◌≤◌, Bool, cond, not, ◌&&◌, List, [], ◌∷◌, length, is_some, Some, None, Ok, Err, Option, Result, ◌==◌, nat_le, nat_lt}
+use Rattle.std.specs.Prelude.{ℕ, ◌<◌, ◌≤◌, Bool, cond, not, ◌&&◌, List, [], ◌∷◌, length, is_some, Some, None, Ok, Err, Option, Result, ◌==◌, nat_le, nat_lt, ◌≡◌, refl}
 use Rattle.book.specs.declared.row.Row.{Row}
 use Rattle.book.specs.declared.BookRefusal.{BookRefusal}
 use Rattle.book.specs.declared.BookRefusal.TheVariants.{Reserved, Present, Full, Absent}
-use Rattle.book.specs.declared.wanted.Wanted.{Wanted}
-use Rattle.book.specs.declared.wanted.Wanted.TheVariants.{WithPeer, Above}
 use Rattle.book.specs.Rows.{is_opening}
 
 -- the rows, and how many there can be
@@ -65,19 +63,10 @@ find rs p = first (shows p) rs
 abbrev pub next : List Row → ℕ → Option ℕ
 next rs k = first (beyond k) rs
 
--- which row is wanted
-abbrev pub fits : Wanted → Row → Bool
-fits (WithPeer p) = shows p
-fits (Above k) = beyond k
-
 -- the rows above an own SPI
 abbrev pub after : List Row → ℕ → List Row
 after [] k = []
 after (r ∷ rs) k = cond (nat_lt k r.own) (r ∷ rs) (after rs k)
-
-abbrev pub front : List Row → Option Row
-front [] = None
-front (r ∷ rs) = Some r
 
 -- A change is refused, and then all is as it was, or it leaves these rows.
 abbrev pub Answer : Type 0
@@ -123,3 +112,14 @@ book_number Reserved = 60
 book_number Present = 61
 book_number Full = 62
 book_number Absent = 63
+
+-- the refusal that has a number
+abbrev pub book_of : ℕ → Option BookRefusal
+book_of n =
+    cond (n == 60) (Some Reserved) (cond (n == 61) (Some Present) (cond (n == 62) (Some Full) (cond (n == 63) (Some Absent) None)))
+
+pub book_told : (x : BookRefusal) → book_of (book_number x) ≡ Some x
+book_told Reserved = refl
+book_told Present = refl
+book_told Full = refl
+book_told Absent = refl

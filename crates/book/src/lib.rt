@@ -2,13 +2,14 @@
 #![tactic(auto)]
 
 ghost use Rattle.std.specs.Prelude.{◌≡◌, length};
-ghost use Rattle.book.specs.Shelves.{Shelf, Orderly, put_in, written_in, removed_from, read_in, find as found_in, next as next_in, book_number};
+ghost use Rattle.numbered.specs.Apart.{apart_by};
+ghost use Rattle.book.specs.Shelves.{Shelf, Orderly, put_in, written_in, removed_from, read_in, find as found_in, next as next_in, book_number, book_of, book_told};
 
+use numbered::Numbered;
 use row::Row;
 
 pub mod audit;
 pub mod row;
-pub mod wanted;
 
 /// Why a book turns a call down; as a number, that of the rule.
 #[derive(Clone, Copy, PartialEq, Eq, Debug)]
@@ -23,13 +24,14 @@ pub enum BookRefusal {
     Absent = 63,
 }
 
-impl BookRefusal {
-    /// The number of the rule.
-    pub fn number(self) -> u16
-        ensures { result ≡ book_number self }
-    {
+impl Numbered for BookRefusal {
+    ghost number_of = { book_number };
+
+    fn number(self) -> u16 {
         self as u16
     }
+
+    ghost apart = { apart_by book_number book_of book_told };
 }
 
 /// A record of Child SAs, by own SPI. A change that is refused leaves all as it was, and a question changes nothing.

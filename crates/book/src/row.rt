@@ -1,15 +1,18 @@
 //! A row: what one end files of a Child SA.
 ghost use Rattle.std.specs.Prelude.{◌≡◌};
+ghost use Rattle.numbered.specs.Apart.{apart_by};
 ghost use Rattle.nonce.specs.Nonces.{as_nonce};
-ghost use Rattle.book.specs.Rows.{state_number, beginner_number, is_opening, kept, kept_octets, nr_octets, exchanged, mirrors};
+ghost use Rattle.book.specs.Rows.{state_number, state_of, state_told, beginner_number, beginner_of, beginner_told, is_opening, kept, kept_octets, nr_octets, swapped, spis, exchanged, mirrors};
+ghost use Rattle.book.specs.Shelves.{shows, beyond};
 
 use nonce::Nonce;
-use octets::same;
+use numbered::Numbered;
 
 /// The state of a Child SA at one end.
-#[derive(Clone, Copy, PartialEq, Eq, Debug)]
+#[derive(Clone, Copy, PartialEq, Eq, Debug, Default)]
 pub enum RowState {
     /// This end asked for it, and has no answer yet.
+    #[default]
     Opening = 1,
     /// It was made, and the exchange that made it may still collide with another.
     Fresh = 2,
@@ -21,28 +24,29 @@ pub enum RowState {
 }
 
 /// Who began the exchange that made a Child SA.
-#[derive(Clone, Copy, PartialEq, Eq, Debug)]
+#[derive(Clone, Copy, PartialEq, Eq, Debug, Default)]
 pub enum Beginner {
+    #[default]
     ThisEnd = 0,
     Peer = 1,
 }
 
 /// A nonce in a row: the first `len` of the octets. A length above 32 counts as 32.
-#[derive(Clone, Copy)]
+#[derive(Clone, Copy, Default)]
 pub struct KeptNonce {
     pub octets: [u8; 32],
     pub len: usize,
 }
 
 /// The SPIs of a Child SA: this end's and the peer's; both 0 where there is none.
-#[derive(Clone, Copy)]
+#[derive(Clone, Copy, PartialEq, Eq, Debug, Default)]
 pub struct Spis {
     pub own: u32,
     pub peer: u32,
 }
 
 /// A row of a book. A row is filed by its own SPI.
-#[derive(Clone, Copy)]
+#[derive(Clone, Copy, Default)]
 pub struct Row {
     pub own: u32,
     /// The peer's SPI; 0 where the row is Opening.
@@ -57,55 +61,49 @@ pub struct Row {
     pub nr: KeptNonce,
 }
 
-impl RowState {
-    /// The number of the state.
-    pub fn number(self) -> u8
-        ensures { result ≡ state_number self }
-    {
-        self as u8
+impl Numbered for RowState {
+    ghost number_of = { state_number };
+
+    fn number(self) -> u16 {
+        self as u16
     }
 
+    ghost apart = { apart_by state_number state_of state_told };
+}
+
+impl RowState {
     /// Whether the SA is still asked for.
     pub(crate) fn is_opening(self) -> bool
         ensures { result ≡ is_opening self }
     {
-        match self {
-            RowState::Opening => true,
-            _ => false,
-        }
+        self == RowState::Opening
     }
 }
 
-impl Beginner {
-    /// The number of the end that began.
-    pub fn number(self) -> u8
-        ensures { result ≡ beginner_number self }
-    {
-        match self {
-            Beginner::ThisEnd => 0,
-            Beginner::Peer => 1,
-        }
+impl Numbered for Beginner {
+    ghost number_of = { beginner_number };
+
+    fn number(self) -> u16 {
+        self as u16
     }
+
+    ghost apart = { apart_by beginner_number beginner_of beginner_told };
 }
 
-impl KeptNonce {
-    /// No octets.
-    pub const EMPTY: KeptNonce = KeptNonce {
-        octets: [0; 32],
-        len: 0,
-    };
+impl From<&Nonce> for KeptNonce {
+    ghost from_gives = { λ n k. k ≡ kept n.now };
 
     /// The octets of a nonce.
-    pub fn of(nonce: &Nonce) -> KeptNonce
-        ensures { result ≡ kept nonce.now }
-    {
+    fn from(nonce: &Nonce) -> KeptNonce {
         let from = nonce.as_slice();
         let len = from.len();
         let mut octets = [0; 32];
         octets[0..len].copy_from_slice(from);
         KeptNonce { octets, len }
     }
+}
 
+impl KeptNonce {
     /// The nonce, or nothing where the octets are not 16 to 32.
     pub fn nonce(&self) -> Option<Nonce>
         ensures { result ≡ as_nonce (kept_octets self.now) }
@@ -122,17 +120,42 @@ impl KeptNonce {
     }
 }
 
+impl Spis {
+    /// The same pair as the peer has it.
+    fn swapped(self) -> Spis
+        ensures { result ≡ swapped self }
+    {
+        Spis {
+            own: self.peer,
+            peer: self.own,
+        }
+    }
+}
+
 impl Row {
-    /// A row that stands where there is none.
-    pub const BLANK: Row = Row {
-        own: 0,
-        peer: 0,
-        state: RowState::Opening,
-        began: Beginner::ThisEnd,
-        parent: Spis { own: 0, peer: 0 },
-        ni: KeptNonce::EMPTY,
-        nr: KeptNonce::EMPTY,
-    };
+    /// The SPIs of the Child SA.
+    fn spis(&self) -> Spis
+        ensures { result ≡ spis self.now }
+    {
+        Spis {
+            own: self.own,
+            peer: self.peer,
+        }
+    }
+
+    /// Whether the row has this peer SPI, and is not Opening.
+    pub fn has_peer(&self, peer: u32) -> bool
+        ensures { result ≡ shows peer self.now }
+    {
+        self.peer == peer && !self.state.is_opening()
+    }
+
+    /// Whether the row's own SPI is above this one.
+    pub fn is_above(&self, own: u32) -> bool
+        ensures { result ≡ beyond own self.now }
+    {
+        own < self.own
+    }
 
     /// The octets of the responder's nonce: none while the row is Opening.
     fn nr_octets(&self) -> &[u8]
@@ -148,19 +171,17 @@ impl Row {
     fn exchanges(&self, other: &Row) -> bool
         ensures { result ≡ exchanged self.now other.now }
     {
-        self.own == other.peer
-            && self.peer == other.own
-            && self.parent.own == other.parent.peer
-            && self.parent.peer == other.parent.own
+        self.spis() == other.spis().swapped() && self.parent == other.parent.swapped()
     }
 
     /// Whether two rows are of one Child SA, each as its end sees it.
+    #[tactic(auto, unfolding(crate::specs::Rows::mirrors))]
     pub fn mirrors(&self, other: &Row) -> bool
         ensures { result ≡ mirrors self.now other.now }
     {
-        let ni = same(self.ni.as_slice(), other.ni.as_slice());
-        let nr = same(self.nr_octets(), other.nr_octets());
-        let began = self.began.number() != other.began.number();
-        self.exchanges(other) && began && ni && nr
+        self.exchanges(other)
+            && self.began != other.began
+            && self.ni.as_slice() == other.ni.as_slice()
+            && self.nr_octets() == other.nr_octets()
     }
 }

@@ -16,6 +16,6 @@ fn row(own: u32, peer: u32) -> Row
         own,
         peer,
         state: RowState::Standing,
-        ..Row::BLANK
+        ..Row::default()
     }
 }

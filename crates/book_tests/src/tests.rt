@@ -1,8 +1,10 @@
 //! The tests.
 use crate::row;
-use book::audit::{Finding, audit};
+use book::audit::audit;
 use book::row::{Beginner, KeptNonce, Row, RowState, Spis};
 use book::{Book, BookRefusal};
+use nonce::side::Side;
+use numbered::Numbered;
 use ordered::OrderedBook;
 use std::process::Abort;
 use std::test::Fail;
@@ -10,10 +12,7 @@ use table::TableBook;
 
 /// Whether a change was refused by this number.
 fn refused(answer: Result<(), BookRefusal>, number: u16) -> bool {
-    match answer {
-        Ok(()) => false,
-        Err(refusal) => refusal.number() == number,
-    }
+    answer.is_err_and(|refusal| refusal.number() == number)
 }
 
 /// Puts 16 rows, whose hashed places are few.
@@ -59,8 +58,8 @@ fn walks<B: Book>(rt: &impl Abort, book: &mut B) -> Result<(), Fail> {
     fill(book)?;
     let mut last = 0;
     for i in 0..16 {
-        let own = book.next(last).ok_or("too few")?;
-        assert_eq!(rt; own, 3616 + i * 32);
+        let own = 3616 + i * 32;
+        assert_eq!(rt; book.next(last), Some(own));
         last = own;
     }
     assert_eq!(rt; book.next(last), None);
@@ -73,7 +72,7 @@ fn finds<B: Book>(rt: &impl Abort, book: &mut B) -> Result<(), Fail> {
         own: 300,
         peer: 9,
         state: RowState::Opening,
-        ..Row::BLANK
+        ..Row::default()
     })?;
     assert_eq!(rt; book.find(9), None);
     book.put(row(500, 9))?;
@@ -132,25 +131,30 @@ fn pair(a: u32, b: u32) -> (Row, Row) {
     )
 }
 
+/// The side and the own SPI of the row that an audit finds alone.
+fn alone<P: Book, Q: Book>(a: &P, b: &Q) -> Option<(Side, u32)> {
+    audit(a, b).map(|alone| (alone.side, alone.row.own))
+}
+
 #[test]
 fn audits(rt: HostRuntime) -> Result<(), Fail> {
     let (of_a, of_b) = pair(256, 999);
     assert!(rt; of_a.mirrors(&of_b) && !of_a.mirrors(&of_a));
     let mut a = OrderedBook::new();
     let mut b = TableBook::new();
-    assert!(rt; matches!(audit(&a, &b), Finding::AllMirrored));
+    assert_eq!(rt; alone(&a, &b), None);
     a.put(of_a)?;
-    assert!(rt; matches!(audit(&a, &b), Finding::AloneInA(row) if row.own == 256));
-    assert!(rt; matches!(audit(&b, &a), Finding::AloneInB(row) if row.own == 256));
+    assert_eq!(rt; alone(&a, &b), Some((Side::A, 256)));
+    assert_eq!(rt; alone(&b, &a), Some((Side::B, 256)));
     b.put(of_b)?;
-    assert!(rt; matches!(audit(&a, &b), Finding::AllMirrored));
+    assert_eq!(rt; alone(&a, &b), None);
     b.write(Row {
         ni: nonce(2),
         ..of_b
     })?;
-    assert!(rt; matches!(audit(&a, &b), Finding::AloneInA(row) if row.own == 256));
+    assert_eq!(rt; alone(&a, &b), Some((Side::A, 256)));
     a.remove(256)?;
-    assert!(rt; matches!(audit(&a, &b), Finding::AloneInB(row) if row.own == 999));
+    assert_eq!(rt; alone(&a, &b), Some((Side::B, 999)));
     Ok(())
 }
 
@@ -160,12 +164,8 @@ fn numbers(rt: HostRuntime) -> Result<(), Fail> {
     assert_eq!(rt; RowState::Closing.number(), 5);
     assert_eq!(rt; Beginner::Peer.number(), 1);
     assert_eq!(rt; BookRefusal::Absent.number(), 63);
-    assert!(rt; KeptNonce::EMPTY.nonce().is_none());
-    match nonce(3).nonce() {
-        Some(made) => {
-            assert_eq!(rt; KeptNonce::of(&made).len, 20);
-            Ok(())
-        },
-        None => Err(Fail::new("no nonce")),
-    }
+    assert!(rt; KeptNonce::default().nonce().is_none());
+    let made = nonce(3).nonce().ok_or("no nonce")?;
+    assert_eq!(rt; KeptNonce::from(&made).len, 20);
+    Ok(())
 }

@@ -1,63 +1,74 @@
--- The rows in the first n places after each change, and that they rise.
-use Rattle.std.proofs.Common.{◌≡◌, ℕ, ◌+◌, ◌-◌, ◌<◌, ◌≤◌, true, false, List, [], ◌∷◌, ◌++◌, length, get_or, take, drop, set, is_some, Some, None, Ok, Err, Option, sym, ap, ◌∙◌, arith}
-use borrow.Rule.Slice.PartMut.{mid_of, put_mid, same_len_mid}
-use lib.Seq.{take-set-lt}
-use Rattle.std.proofs.lemmas.List.{get_or-take, length-set}
+-- What a place says of the rows, and what a change at it leaves.
+use Rattle.std.proofs.Common.{◌≡◌, ℕ, ◌<◌, ◌≤◌, true, false, eqb, List, [], ◌∷◌, length, get_or, set, is_some, Some, None, Ok, Err, Option, sym, refl, ap, ◌∙◌, arith}
+use Rattle.std.specs.List.{insert as put_at, remove as taken_at}
+use Rattle.std.specs.Option.{ok_or}
+use Rattle.std.proofs.lemmas.Bool.{eqb-false}
 use Rattle.book.specs.declared.row.Row.{Row}
-use Rattle.book.specs.declared.BookRefusal.TheVariants.{Absent}
-use Rattle.book.specs.Shelves.{has, insert, replace, remove, lookup, row_or}
+use Rattle.book.specs.declared.BookRefusal.TheVariants.{Present, Full}
+use Rattle.book.specs.Shelves.{Shelf, Answer, has, insert, replace, remove, put_in, written_in, removed_from, read_in}
+use Rattle.book.proofs.Changes.{put_present, put_full, put_made, write_made, remove_made, ok_is, err_is}
 use Rattle.book.proofs.Lookups.{rising_insert, rising_replace, rising_remove}
 use Rattle.ordered.specs.Places.{rises, index_of, room}
 use Rattle.ordered.specs.Found.{rises_rising, rising_rises, index_lookup, index_absent, insert_at, replace_at, remove_at}
-use Rattle.ordered.proofs.Shifts.{shifted_in, shifted_out}
 
--- a row put in
+abbrev shelf : List Row → Shelf
+shelf rs = record { rows = rs; most = 16 }
+
+-- these rows rise, and are what the change leaves
+abbrev Files : List Row → Answer × Shelf → Type 0
+Files new after = (rises 255 new ≡ true) × ((Ok tt, shelf new) ≡ after)
+
+-- a row is there where there is a place
+pub has_index : (rs : List Row) (k : ℕ) → has rs k ≡ is_some (index_of rs k)
+has_index rs k = has_at rs k (index_of rs k) refl
+  where
+    has_at : (rs : List Row) (k : ℕ) (o : Option ℕ) → o ≡ index_of rs k → has rs k ≡ is_some o
+    has_at rs k None e = ap is_some (index_absent rs k e)
+    has_at [] k (Some i) e = cc
+    has_at (r ∷ rs) k (Some i) e = ap is_some (index_lookup (r ∷ rs) k i r e)
+
+there : {E : Type 0} (e : E) (rs : List Row) (k i : ℕ) → Ok i ≡ ok_or (index_of rs k) e → has rs k ≡ true
+there e rs k i h = has_index rs k ∙ sym (ap is_some (ok_is _ e i h))
+
+lacking : {E : Type 0} (e d : E) (rs : List Row) (k : ℕ) → Err d ≡ ok_or (index_of rs k) e → has rs k ≡ false
+lacking e d rs k h = has_index rs k ∙ sym (ap is_some (err_is _ e d h).0)
+
+pub read_at : {E : Type 0} (e : E) (rs : List Row) (k i : ℕ) (d : Row) → Ok i ≡ ok_or (index_of rs k) e → Ok (get_or rs i d) ≡ read_in (shelf rs) k
+read_at e rs k i d h = let l = index_lookup rs k i d (ok_is _ e i h) in rw l refl
+
+pub put_there : {E : Type 0} (e : E) (rs : List Row) (x : Row) (i : ℕ) → 255 < x.own → Ok i ≡ ok_or (index_of rs x.own) e → (Err Present, shelf rs) ≡ put_in (shelf rs) x
+put_there e rs x i l h = sym (put_present (shelf rs) x (omega arith) (there e rs x.own i h))
+
+pub put_none : (rs : List Row) (x : Row) (i : ℕ) → 255 < x.own → length rs ≡ 16 → Err i ≡ ok_or (index_of rs x.own) (room rs x.own) → (Err Full, shelf rs) ≡ put_in (shelf rs) x
+put_none rs x i l m h = sym (put_full (shelf rs) x (omega arith) (lacking _ i rs x.own h) (omega arith))
+
+pub not_full : (n : ℕ) → eqb n 16 ≡ false → n ≤ 16 → n < 16
+not_full n e l = omega (arith, eqb-false n 16 e)
+
 pub filed_in :
-    (ps part : List Row) (n i : ℕ) (x : Row) → n < length ps → i ≡ room (take n ps) x.own → i ≤ n →
-    length part ≡ length (mid_of i (n + 1 - i) ps) →
-    ((k : ℕ) (d : Row) → 1 ≤ k → k < length (mid_of i (n + 1 - i) ps) → get_or part k d ≡ get_or (mid_of i (n + 1 - i) ps) (k - 1) d) →
-    take (n + 1) (set (put_mid i (n + 1 - i) ps part) i x) ≡ insert (take n ps) x
-filed_in ps part n i x l e m len moved =
-    shifted_in ps part n i x l m len moved
-    ∙ ap (λ (j : ℕ). take j (take n ps) ++ (x ∷ drop j (take n ps))) e
-    ∙ sym (insert_at (take n ps) x)
+    (rs : List Row) (x : Row) (i : ℕ) → rises 255 rs ≡ true → 255 < x.own → length rs < 16 → Err i ≡ ok_or (index_of rs x.own) (room rs x.own) →
+    Files (put_at rs i x) (put_in (shelf rs) x)
+filed_in rs x i s l m h =
+    let f = lacking _ i rs x.own h in
+    let e : put_at rs i x ≡ insert rs x = ap (λ (j : ℕ). put_at rs j x) (err_is _ _ i h).1 ∙ sym (insert_at rs x) in (
+      ap (rises 255) e ∙ rising_rises 255 (insert rs x) (rising_insert 255 rs x l f (rises_rising 255 rs s)),
+      put_made (shelf rs) x (put_at rs i x) (omega arith) f m e,
+    )
 
-pub rises_in : (rs new : List Row) (x : Row) → new ≡ insert rs x → 255 < x.own → has rs x.own ≡ false → rises 255 rs ≡ true → rises 255 new ≡ true
-rises_in rs new x e l h r = ap (rises 255) e ∙ rising_rises 255 (insert rs x) (rising_insert 255 rs x l h (rises_rising 255 rs r))
+pub filed_over :
+    {E : Type 0} (e : E) (rs : List Row) (x : Row) (i : ℕ) → rises 255 rs ≡ true → Ok i ≡ ok_or (index_of rs x.own) e →
+    Files (set rs i x) (written_in (shelf rs) x)
+filed_over d rs x i s h =
+    let e : set rs i x ≡ replace rs x = sym (replace_at rs x i (ok_is _ d i h)) in (
+      ap (rises 255) e ∙ rising_rises 255 (replace rs x) (rising_replace 255 rs x (rises_rising 255 rs s)),
+      write_made (shelf rs) x (set rs i x) (there d rs x.own i h) e,
+    )
 
--- a row written
-pub filed_over : (ps : List Row) (n i : ℕ) (x : Row) → i < n → Some i ≡ index_of (take n ps) x.own → take n (set ps i x) ≡ replace (take n ps) x
-filed_over ps n i x l e = take-set-lt n ps i x l ∙ sym (replace_at (take n ps) x i e)
-
-pub rises_over : (rs new : List Row) (x : Row) → new ≡ replace rs x → rises 255 rs ≡ true → rises 255 new ≡ true
-rises_over rs new x e r = ap (rises 255) e ∙ rising_rises 255 (replace rs x) (rising_replace 255 rs x (rises_rising 255 rs r))
-
--- a row taken out
 pub filed_out :
-    (ps part : List Row) (n i k : ℕ) → n ≤ length ps → i < n → Some i ≡ index_of (take n ps) k →
-    length part ≡ length (mid_of i (n - i) ps) →
-    ((j : ℕ) (d : Row) → j + 1 < length (mid_of i (n - i) ps) → get_or part j d ≡ get_or (mid_of i (n - i) ps) (j + 1) d) →
-    take (n - 1) (put_mid i (n - i) ps part) ≡ remove (take n ps) k
-filed_out ps part n i k l m e len moved = shifted_out ps part n i l m len moved ∙ sym (remove_at (take n ps) k i e)
-
-pub rises_out : (rs new : List Row) (k : ℕ) → new ≡ remove rs k → rises 255 rs ≡ true → rises 255 new ≡ true
-rises_out rs new k e r = ap (rises 255) e ∙ rising_rises 255 (remove rs k) (rising_remove 255 rs k (rises_rising 255 rs r))
-
--- the places stay as many
-pub long_in : (ps part : List Row) (i m : ℕ) (x : Row) → length ps ≡ 16 → length part ≡ length (mid_of i m ps) → length (set (put_mid i m ps part) i x) ≡ 16
-long_in ps part i m x l len = length-set (put_mid i m ps part) i x ∙ same_len_mid i m ps part len ∙ l
-
-pub long_out : (ps part : List Row) (i m : ℕ) → length ps ≡ 16 → length part ≡ length (mid_of i m ps) → length (put_mid i m ps part) ≡ 16
-long_out ps part i m l len = same_len_mid i m ps part len ∙ l
-
--- what a place says of a lookup
-pub has_index : (rs : List Row) (k : ℕ) (o : Option ℕ) → o ≡ index_of rs k → has rs k ≡ is_some o
-has_index rs k None e = ap is_some (index_absent rs k e)
-has_index (r ∷ rs) k (Some i) e = ap is_some (index_lookup (r ∷ rs) k i r e)
-has_index [] k (Some i) e = let z : ◌≡◌ {A = ℕ} 0 1 = cc in absurd (omega arith)
-
-pub read_at : (ps : List Row) (n k i : ℕ) (d : Row) → i < n → Some i ≡ index_of (take n ps) k → Ok (get_or ps i d) ≡ row_or (lookup (take n ps) k)
-read_at ps n k i d l e = ap (λ (r : Row). Ok r) (sym (get_or-take n ps i d l)) ∙ sym (ap row_or (index_lookup (take n ps) k i d e))
-
-pub read_none : (rs : List Row) (k : ℕ) → None ≡ index_of rs k → Err Absent ≡ row_or (lookup rs k)
-read_none rs k e = sym (ap row_or (index_absent rs k e))
+    {E : Type 0} (e : E) (rs : List Row) (k i : ℕ) → rises 255 rs ≡ true → Ok i ≡ ok_or (index_of rs k) e →
+    Files (taken_at rs i) (removed_from (shelf rs) k)
+filed_out d rs k i s h =
+    let e : taken_at rs i ≡ remove rs k = sym (remove_at rs k i (ok_is _ d i h)) in (
+      ap (rises 255) e ∙ rising_rises 255 (remove rs k) (rising_remove 255 rs k (rises_rising 255 rs s)),
+      remove_made (shelf rs) k (taken_at rs i) (there d rs k i h) e,
+    )

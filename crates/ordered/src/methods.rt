@@ -1,14 +1,14 @@
 //! How an ordered book is a book.
-ghost use Rattle.std.specs.Prelude.{◌≡◌, ◌<◌, false, IfSome};
-ghost use Rattle.book.specs.Shelves.{has, insert, empty_shelf};
-ghost use Rattle.ordered.specs.Places.{index_of};
-ghost use Rattle.ordered.specs.Shelved.{shelved, ordered_rows};
-ghost use Rattle.ordered.specs.Found.{rises_rising, few_taken};
+ghost use Rattle.std.specs.Prelude.{◌≡◌, ◌<◌, length, IfOk};
+ghost use Rattle.std.specs.List.Sorted.{IsSearchInRange};
+ghost use Rattle.std.specs.Option.{ok_or};
+ghost use Rattle.book.specs.Shelves.{empty_shelf};
+ghost use Rattle.ordered.specs.Places.{index_of, room};
+ghost use Rattle.ordered.specs.Shelved.{shelved, ordered_rows, ordered_orderly};
 
-use crate::rows::{first, index, room};
-use crate::{CAPACITY, OrderedBook};
+use crate::OrderedBook;
+use arrayvec::ArrayVec;
 use book::row::Row;
-use book::wanted::Wanted;
 use book::{Book, BookRefusal};
 
 impl OrderedBook {
@@ -17,104 +17,84 @@ impl OrderedBook {
         ensures { shelved result ≡ empty_shelf 16 }
     {
         OrderedBook {
-            places: [Row::BLANK; CAPACITY],
-            count: 0,
+            rows: ArrayVec::new(),
         }
     }
 
-    /// The rows.
-    fn rows(&self) -> &[Row]
-        ensures { result.now ≡ ordered_rows self.now }
+    /// The place of the row of an own SPI, or else the place for a new one.
+    fn place(&self, own: u32) -> Result<usize, usize>
+        ensures value { result ≡ ok_or (index_of (ordered_rows self.now) own) (room (ordered_rows self.now) own) }
+        ensures within { IsSearchInRange result (length (ordered_rows self.now)) }
     {
-        &self.places[0..self.count]
+        self.rows
+            .as_slice()
+            .binary_search_by_key(&own, |row| row.own)
     }
 
-    /// The place of the row of an own SPI.
-    fn position(&self, own: u32) -> Option<usize>
-        ensures value { result ≡ index_of (ordered_rows self.now) own }
-        ensures within { IfSome result (λ i. i < self.now.count) }
+    /// The place of the row of an own SPI. Refused where there is none.
+    fn held(&self, own: u32) -> Result<usize, BookRefusal>
+        ensures value { result ≡ ok_or (index_of (ordered_rows self.now) own) BookRefusal.Absent }
+        ensures within { IfOk result (λ i. i < length (ordered_rows self.now)) }
     {
-        index(self.rows(), own)
-    }
-
-    /// Moves the rows from the place for a new one on, and puts it there.
-    fn insert(&mut self, row: Row)
-        requires lt_own { 255 < row.own }
-        requires own_value { has (ordered_rows self.old) row.own ≡ false }
-        requires count_bound { self.old.count < 16 }
-        ensures { ordered_rows self.new ≡ insert (ordered_rows self.old) row }
-    {
-        let place = room(self.rows(), row.own);
-        self.places[place..self.count + 1].rotate_right(1);
-        self.places[place] = row;
-        self.count += 1;
+        self.place(own).map_err(|_| BookRefusal::Absent)
     }
 }
 
 impl Book for OrderedBook {
     ghost shelf = { shelved };
 
-    ghost orderly = { λ b.
-        record {
-          rises = rises_rising 255 _ b.ok;
-          within = few_taken b.count b.places b.most;
-        } };
+    ghost orderly = { ordered_orderly };
 
     fn len(&self) -> usize {
-        self.rows().len()
+        self.rows.len()
     }
 
     fn capacity(&self) -> usize {
-        self.places.len()
+        self.rows.capacity()
     }
 
     fn put(&mut self, row: Row) -> Result<(), BookRefusal> {
         if row.own < 256 {
             return Err(BookRefusal::Reserved);
         }
-        if self.position(row.own).is_some() {
+        let Err(place) = self.place(row.own) else {
             return Err(BookRefusal::Present);
-        }
-        if self.count >= CAPACITY {
+        };
+        if self.rows.is_full() {
             return Err(BookRefusal::Full);
         }
-        self.insert(row);
+        self.rows.insert(place, row);
         Ok(())
     }
 
     fn read(&self, own: u32) -> Result<Row, BookRefusal> {
-        match self.position(own) {
-            Some(i) => Ok(self.places[i]),
-            None => Err(BookRefusal::Absent),
-        }
+        let i = self.held(own)?;
+        Ok(self.rows[i])
     }
 
     fn write(&mut self, row: Row) -> Result<(), BookRefusal> {
-        match self.position(row.own) {
-            Some(i) => {
-                self.places[i] = row;
-                Ok(())
-            }
-            None => Err(BookRefusal::Absent),
-        }
+        let i = self.held(row.own)?;
+        self.rows[i] = row;
+        Ok(())
     }
 
     fn remove(&mut self, own: u32) -> Result<(), BookRefusal> {
-        match self.position(own) {
-            Some(i) => {
-                self.places[i..self.count].rotate_left(1);
-                self.count -= 1;
-                Ok(())
-            }
-            None => Err(BookRefusal::Absent),
-        }
+        let i = self.held(own)?;
+        self.rows.remove(i);
+        Ok(())
     }
 
     fn find(&self, peer: u32) -> Option<u32> {
-        first(self.rows(), Wanted::WithPeer(peer))
+        self.rows
+            .iter()
+            .find(|row| row.has_peer(peer))
+            .map(|row| row.own)
     }
 
     fn next(&self, own: u32) -> Option<u32> {
-        first(self.rows(), Wanted::Above(own))
+        self.rows
+            .iter()
+            .find(|row| row.is_above(own))
+            .map(|row| row.own)
     }
 }

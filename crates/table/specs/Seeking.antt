@@ -9,7 +9,7 @@ use Rattle.table.specs.Slots.{Slots, seek, holds, apart}
 
 pub none_from : {X : Type 0} (o : Option X) → is_some o ≡ false → o ≡ None
 none_from None e = refl
-none_from (Some x) e = let z : ◌≡◌ {A = ℕ} 0 1 = cc in absurd (omega arith)
+none_from (Some x) e = cc
 
 -- emptying a slot brings no row
 pub seek_emptied : (s : Slots) (i k : ℕ) → seek s k ≡ None → seek (slice_set s i None) k ≡ None
@@ -70,8 +70,8 @@ seek_none (Some r ∷ s) (suc i) k e =
 
 -- the row of a slot is in no other
 pub seek_others : (s : Slots) (i : ℕ) (r : Row) → apart s ≡ true → slice_index_or s i None ≡ Some r → seek (slice_set s i None) r.own ≡ None
-seek_others [] i r a e = let z : ◌≡◌ {A = ℕ} 0 1 = cc in absurd (omega arith)
-seek_others (None ∷ s) zero r a e = let z : ◌≡◌ {A = ℕ} 0 1 = cc in absurd (omega arith)
+seek_others [] i r a e = cc
+seek_others (None ∷ s) zero r a e = cc
 seek_others (Some y ∷ s) zero r a e = let f : y ≡ r = cc in ap (λ (z : Row). seek s z.own) (sym f) ∙ (apart_parts y s a).1
 seek_others (None ∷ s) (suc i) r a e = seek_others s i r a e
 seek_others (Some y ∷ s) (suc i) r a e =

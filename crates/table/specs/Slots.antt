@@ -1,7 +1,6 @@
 -- Slots, each of which may hold a row.
-use Rattle.std.specs.Prelude.{ℕ, zero, suc, ◌+◌, ◌%◌, Bool, true, false, cond, not, ◌&&◌, List, [], ◌∷◌, is_some, Some, None, Option, ◌==◌, nat_lt, slice_index_or}
+use Rattle.std.specs.Prelude.{ℕ, zero, suc, ◌+◌, ◌%◌, Bool, true, false, cond, not, ◌&&◌, List, [], ◌∷◌, position, count_by, is_some, Some, None, Option, ◌==◌, nat_lt, slice_index_or}
 use Rattle.book.specs.declared.row.Row.{Row}
-use Rattle.book.specs.Places.{place_where}
 use Rattle.book.specs.Shelves.{insert}
 
 abbrev pub Slots : Type 0
@@ -15,9 +14,7 @@ sorted_rows (Some r ∷ s) = insert (sorted_rows s) r
 
 -- how many slots hold a row
 abbrev pub used : Slots → ℕ
-used [] = 0
-used (None ∷ s) = used s
-used (Some r ∷ s) = suc (used s)
+used s = count_by is_some s
 
 -- whether a slot holds the row of an own SPI
 abbrev pub holds : Option Row → ℕ → Bool
@@ -30,7 +27,7 @@ seek [] k = None
 seek (o ∷ s) k = cond (holds o k) o (seek s k)
 
 abbrev pub place_in : Slots → ℕ → Option ℕ
-place_in s k = place_where (λ o. holds o k) s
+place_in s k = position (λ o. holds o k) s
 
 -- no two rows have one own SPI, and none has a reserved one
 abbrev pub apart : Slots → Bool

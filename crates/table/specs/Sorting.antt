@@ -1,7 +1,8 @@
 -- The rows of slots by rising own SPI: what is looked up in them is what a slot holds, and what a change of a slot does.
-use Rattle.std.specs.Prelude.{◌≡◌, ℕ, ◌<◌, ◌≤◌, Bool, true, false, cond, List, [], ◌∷◌, length, set, is_some, Some, None, Option, ◌==◌, nat_eq, nat_lt, slice_index_or, slice_set, refl}
+use Rattle.std.specs.Prelude.{◌≡◌, ℕ, ◌+◌, ◌<◌, ◌≤◌, Bool, true, false, cond, List, [], ◌∷◌, length, set, is_some, Some, None, Option, ◌==◌, nat_eq, nat_lt, slice_index_or, slice_set, refl}
 use Rattle.std.proofs.Common.{sym, ap, ◌∙◌, inl, inr, arith}
 use Rattle.std.proofs.lemmas.List.{set-get_or}
+use Rattle.std.proofs.lemmas.List.Sums.{sum_by-cons, count_by-le-length}
 use Rattle.std.proofs.lemmas.Bool.{cases_Bool, cases_eq, cases_order, eq-eqb, ne_eqb, lt-ltb, le-ltb}
 use Rattle.std.proofs.lemmas.Bool.Decides.{nat_tests}
 use Rattle.book.specs.declared.row.Row.{Row}
@@ -29,15 +30,17 @@ rising_sorted (Some r ∷ s) a =
     let p = apart_parts r s a in
     rising_insert 255 (sorted_rows s) r p.0 (has_sorted s r.own p.2 ∙ ap is_some p.1) (rising_sorted s p.2)
 
+-- a slot more
+pub used_some : (r : Row) (s : Slots) → used (Some r ∷ s) ≡ 1 + used s
+used_some r s = sum_by-cons (λ (o : Option Row). cond (is_some o) 1 0) (Some r) s
+
 pub length_sorted : (s : Slots) → length (sorted_rows s) ≡ used s
 length_sorted [] = refl
-length_sorted (None ∷ s) = length_sorted s
-length_sorted (Some r ∷ s) = omega (arith, length_insert (sorted_rows s) r, length_sorted s)
+length_sorted (None ∷ s) = omega (arith, length_sorted s)
+length_sorted (Some r ∷ s) = omega (arith, length_insert (sorted_rows s) r, length_sorted s, used_some r s)
 
 pub used_within : (s : Slots) → used s ≤ length s
-used_within [] = omega arith
-used_within (None ∷ s) = omega (arith, used_within s)
-used_within (Some r ∷ s) = omega (arith, used_within s)
+used_within s = count_by-le-length is_some s
 
 pub few_sorted : (s : Slots) → length s ≡ 16 → length (sorted_rows s) ≤ 16
 few_sorted s l = omega (arith, length_sorted s, used_within s, l)

@@ -1,14 +1,15 @@
 //! How a table is a book.
-ghost use Rattle.std.specs.Prelude.{◌≡◌, ◌<◌, IfSome, None, slice_index_or};
-ghost use Rattle.book.specs.Shelves.{fits, empty_shelf};
+ghost use Rattle.std.specs.Prelude.{◌≡◌, ◌<◌, Bool, IfSome, IfOk, None, slice_index_or};
+ghost use Rattle.std.specs.Fn.{FnReturnsAt};
+ghost use Rattle.std.specs.Option.{ok_or};
+ghost use Rattle.book.specs.Shelves.{empty_shelf};
+ghost use Rattle.book.specs.declared.row.Row.{Row};
 ghost use Rattle.table.specs.Slots.{home, holds, place_of, free_from, used, lowest};
-ghost use Rattle.table.specs.Shelved.{shelved};
-ghost use Rattle.table.specs.Sorting.{rising_sorted, few_sorted};
+ghost use Rattle.table.specs.Shelved.{shelved, table_orderly};
 
-use crate::slots::{holds, home, lower, mine, scan};
+use crate::slots::{holds, home, scan};
 use crate::{CAPACITY, TableBook};
 use book::row::Row;
-use book::wanted::Wanted;
 use book::{Book, BookRefusal};
 
 impl TableBook {
@@ -40,54 +41,50 @@ impl TableBook {
         scan(&self.slots, own)
     }
 
+    /// The same, refused where there is none.
+    fn held(&self, own: u32) -> Result<usize, BookRefusal>
+        ensures value { result ≡ ok_or (place_of self.now.slots own) BookRefusal.Absent }
+        ensures within { IfOk result (λ i. i < 16) }
+    {
+        self.place(own).ok_or(BookRefusal::Absent)
+    }
+
     /// The hashed place of an own SPI where it is free, else the first free one after it, going on at the front.
     fn free_place(&self, own: u32) -> Option<usize>
         ensures value { result ≡ free_from self.now.slots (home own) 16 }
         ensures within { IfSome result (λ i. i < 16) }
     {
         let start = home(own);
-        for step in 0..CAPACITY {
-            let i = (start + step) % CAPACITY;
-            if self.slots[i].is_none() {
-                return Some(i);
-            }
-        }
-        None
-    }
-
-    /// The lowest own SPI of a row that is wanted.
-    fn lowest(&self, wanted: Wanted) -> Option<u32>
-        ensures { result ≡ lowest (fits wanted) self.now.slots }
-    {
-        let mut best = None;
-        for i in 0..CAPACITY {
-            best = lower(best, mine(&self.slots[i], wanted));
-        }
-        best
+        (0..CAPACITY)
+            .map(|step| (start + step) % CAPACITY)
+            .find(|i| self.slots[*i].is_none())
     }
 
     /// How many slots hold a row.
     fn used(&self) -> usize
         ensures { result ≡ used self.now.slots }
     {
-        let mut count = 0;
-        for i in 0..CAPACITY {
-            if self.slots[i].is_some() {
-                count += 1;
-            }
-        }
-        count
+        self.slots.iter().filter(|slot| slot.is_some()).count()
+    }
+
+    /// The lowest own SPI of a row that passes a test.
+    fn lowest<F: Fn(&Row) -> bool>(&self, test: F) -> Option<u32>
+        requires { F.IsAlwaysCallable test }
+        ensures { (q : Row → Bool) → ((r : Row) (b : Bool) → FnReturnsAt F.Fn test r b → b ≡ q r) → result ≡ lowest q self.now.slots }
+    {
+        self.slots
+            .iter()
+            .flatten()
+            .filter(|row| test(row))
+            .map(|row| row.own)
+            .min()
     }
 }
 
 impl Book for TableBook {
     ghost shelf = { shelved };
 
-    ghost orderly = { λ b.
-        record {
-          rises = rising_sorted b.slots b.ok;
-          within = few_sorted b.slots b.long;
-        } };
+    ghost orderly = { table_orderly };
 
     fn len(&self) -> usize {
         self.used()
@@ -104,47 +101,33 @@ impl Book for TableBook {
         if self.place(row.own).is_some() {
             return Err(BookRefusal::Present);
         }
-        match self.free_place(row.own) {
-            Some(free) => {
-                self.slots[free] = Some(row);
-                Ok(())
-            }
-            None => Err(BookRefusal::Full),
-        }
+        let free = self.free_place(row.own).ok_or(BookRefusal::Full)?;
+        self.slots[free] = Some(row);
+        Ok(())
     }
 
     fn read(&self, own: u32) -> Result<Row, BookRefusal> {
-        match self.place(own) {
-            Some(i) => self.slots[i].ok_or(BookRefusal::Absent),
-            None => Err(BookRefusal::Absent),
-        }
+        let i = self.held(own)?;
+        self.slots[i].ok_or(BookRefusal::Absent)
     }
 
     fn write(&mut self, row: Row) -> Result<(), BookRefusal> {
-        match self.place(row.own) {
-            Some(i) => {
-                self.slots[i] = Some(row);
-                Ok(())
-            }
-            None => Err(BookRefusal::Absent),
-        }
+        let i = self.held(row.own)?;
+        self.slots[i] = Some(row);
+        Ok(())
     }
 
     fn remove(&mut self, own: u32) -> Result<(), BookRefusal> {
-        match self.place(own) {
-            Some(i) => {
-                self.slots[i] = None;
-                Ok(())
-            }
-            None => Err(BookRefusal::Absent),
-        }
+        let i = self.held(own)?;
+        self.slots[i] = None;
+        Ok(())
     }
 
     fn find(&self, peer: u32) -> Option<u32> {
-        self.lowest(Wanted::WithPeer(peer))
+        self.lowest(|row| row.has_peer(peer))
     }
 
     fn next(&self, own: u32) -> Option<u32> {
-        self.lowest(Wanted::Above(own))
+        self.lowest(|row| row.is_above(own))
     }
 }

@@ -1,29 +1,20 @@
-use Rattle.std.proofs.Common.{sym, ap, ◌∙◌, arith, rules}
-use Rattle.book.specs.Audits.{alone}
+use Rattle.std.proofs.Common.{not, sym, ap, ◌∙◌, arith, rules, tests, refl}
+use Rattle.std.proofs.lemmas.Iterator.Adapters.{option_map_id}
+use Rattle.std.proofs.lemmas.Iterator.Consumers.{YieldsList-from_first}
+use Rattle.std.proofs.lemmas.Iterator.Search.{find_from_yields_List}
+use Rattle.book.specs.Audits.{has_mirror, alone}
+use Rattle.book.specs.Shelves.{after}
 use Rattle.book.proofs.Firsts.{after_all}
-use Rattle.book.proofs.Walks.{steps, fewer, ended, alone_here, alone_later}
+use Rattle.book.proofs.Walks.{alone_find}
 use Rattle.book.proofs.audit.first_alone.Goals as goal
-
-pub loop-row-init : goal.loop-row-init
-loop-row-init g c =
-    ap (λ rs. alone rs (g.Q.Book.shelf c.args.other.now).rows)
-    (after_all 255 0 (g.P.Book.shelf c.args.book.now).rows (omega arith) (g.met.P.Book.orderly c.args.book.now).rises)
-
-pub loop-row-smaller : goal.loop-row-smaller
-loop-row-smaller g c = fewer 255 _ _ _ (g.met.P.Book.orderly c.args.book.now).rises c.in-Some.ensures
-
-pub returns-then-not-has_mirror : goal.returns-then-not-has_mirror
-returns-then-not-has_mirror g c =
-    let s = steps 255 _ _ _ (g.met.P.Book.orderly c.args.book.now).rises c.in-Some.ensures in
-    sym (alone_here _ _ _ _ s (search rules)) ∙ c.loop-row.invariant
-
-pub loop-row-preserved : goal.loop-row-preserved
-loop-row-preserved g c =
-    let s = steps 255 _ _ _ (g.met.P.Book.orderly c.args.book.now).rises c.in-Some.ensures in
-    sym (alone_later _ _ _ _ s (search rules)) ∙ c.loop-row.invariant
 
 pub returns : goal.returns
 returns g c =
-    ap (λ rs. alone rs (g.Q.Book.shelf c.args.other.now).rows)
-    (sym (ended (g.P.Book.shelf c.args.book.now).rows c.loop-row.last c.in_default.ensures))
-    ∙ c.loop-row.invariant
+    let rs = (g.P.Book.shelf c.args.book.now).rows in
+    let others = (g.Q.Book.shelf c.args.other.now).rows in
+    sym (option_map_id c.find.result)
+    ∙ find_from_yields_List (λ r. not (has_mirror others r)) c.find.new.self _ c.find.result c.find.ensures.ran
+    (YieldsList-from_first (λ x. x) (λ s. after (g.P.Book.shelf s.book.now).rows s.last) (after rs 0) refl)
+    (λ x b q k. (search rules, search (rules, tests)))
+    ∙ alone_find (after rs 0) others
+    ∙ ap (λ (ys : _). alone ys others) (after_all 255 0 rs (omega arith) (g.met.P.Book.orderly c.args.book.now).rises)

@@ -1,35 +1,19 @@
-use Rattle.std.proofs.Common.{◌≡◌, ◌+◌, ◌-◌, ◌%◌, true, false, get_or, is_some, None, sym, ap, ◌∙◌, arith, rules}
+use Rattle.std.proofs.Common.{◌+◌, ◌%◌, sym, ap, ◌∙◌, not, get_or, is_some, None, rules, tests, arith}
+use Rattle.std.proofs.lemmas.Iterator.{YieldsList-from_map, YieldsList-from_range}
+use Rattle.std.proofs.lemmas.Iterator.Adapters.{option_map_id}
+use Rattle.std.proofs.lemmas.Iterator.Consumers.{YieldsList-at}
+use Rattle.std.proofs.lemmas.Iterator.Search.{find_from_yields_List}
 use Rattle.table.specs.Slots.{free_from}
-use Rattle.table.proofs.Placing.{free_here, free_more, free_ends}
+use Rattle.table.proofs.Placing.{free_found}
 use Rattle.table.proofs.TableBook.free_place.Goals as goal
 
-pub loop-step-init : goal.loop-step-init
-loop-step-init c = ap (λ h. free_from c.args.self.now.slots h 16) (omega arith)
-
-pub returns-then-is_none : goal.returns-then-is_none
-returns-then-is_none c =
+pub returns-clause-value : goal.returns-clause-value
+returns-clause-value c =
     let s = c.args.self.now.slots in
-    let t : is_some (get_or s ((c.home-start.result + c.loop-step.step) % 16) None) ≡ false = search rules in
-    record {
-      value =
-          sym (free_here s c.home-start.result c.loop-step.step (omega arith) t) ∙ c.loop-step.invariant
-          ∙ ap (λ h. free_from s h 16) c.home-start.ensures;
-      within = omega arith;
-    }
-
-pub loop-step-preserved : goal.loop-step-preserved
-loop-step-preserved c =
-    let s = c.args.self.now.slots in
-    let t : is_some (get_or s ((c.home-start.result + c.loop-step.step) % 16) None) ≡ true = search rules in
-    sym (free_more s c.home-start.result c.loop-step.step (omega arith) t) ∙ c.loop-step.invariant
-
-pub returns : goal.returns
-returns c =
-    let s = c.args.self.now.slots in
-    let e : 16 - c.loop-step.step ≡ 0 = omega arith in
-    record {
-      value =
-          sym (ap (λ n. free_from s (c.home-start.result + c.loop-step.step) n) e ∙ free_ends s (c.home-start.result + c.loop-step.step))
-          ∙ c.loop-step.invariant ∙ ap (λ h. free_from s h 16) c.home-start.ensures;
-      within = tt;
-    }
+    let h = c.home-start.result in
+    sym (option_map_id c.find.result)
+    ∙ find_from_yields_List (λ i. not (is_some (get_or s i None))) _ _ c.find.result c.find.ensures.ran
+    (YieldsList-from_map _ (λ k. (h + k) % 16) (YieldsList-at c.map.ensures.source (YieldsList-from_range 0 16 16 (search rules) (omega arith)))
+    c.map.ensures.closure (λ x r q k. (search rules, search (rules, tests))))
+    (λ x b q k. (search rules, search (rules, tests)))
+    ∙ free_found s h 0 16 ∙ ap (λ m. free_from s m 16) (omega arith)

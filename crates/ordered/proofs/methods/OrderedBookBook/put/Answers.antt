@@ -1,26 +1,24 @@
-use Rattle.std.proofs.Common.{sym, ◌∙◌, arith, rules}
-use Rattle.book.proofs.Changes.{put_present, put_full, put_made}
-use Rattle.ordered.specs.Shelved.{shelved, ordered_rows}
-use Rattle.ordered.proofs.Filed.{has_index}
+use Rattle.std.proofs.Common.{sym, ◌∙◌, rules, arith}
+use Rattle.ordered.proofs.Filed.{put_there, put_none, not_full, filed_in}
 use Rattle.ordered.proofs.methods.OrderedBookBook.put.Goals as goal
 
-pub returns-then-is_some : goal.returns-then-is_some
-returns-then-is_some c =
-    let h = has_index (ordered_rows c.args.self.now) c.args.row.own _ c.position.ensures.value in
-    sym (put_present (shelved c.args.self.now) c.args.row (omega arith) (h ∙ sym c.if-is_some.ensures))
+pub returns-in_default : goal.returns-in_default
+returns-in_default c = put_there _ c.args.self.now.rows.items c.args.row c.in_default.field-0 (omega arith) c.in_default.ensures.value
 
-pub returns-then-self-ge-CAPACITY : goal.returns-then-self-ge-CAPACITY
-returns-then-self-ge-CAPACITY c =
-    let h = has_index (ordered_rows c.args.self.now) c.args.row.own _ c.position.ensures.value in
-    sym (put_full (shelved c.args.self.now) c.args.row (omega arith) (h ∙ sym c.if-is_some.ensures) (search rules))
+pub returns-then-is_full : goal.returns-then-is_full
+returns-then-is_full c = put_none c.args.self.now.rows.items c.args.row c.in-Err.place (omega arith) (search rules) c.in-Err.ensures.value
 
-pub insert-requires : goal.insert-requires
-insert-requires c =
-    let h = has_index (ordered_rows c.args.self.now) c.args.row.own _ c.position.ensures.value in
-    record { lt_own = omega arith; own_value = h ∙ sym c.if-is_some.ensures; count_bound = omega arith }
+pub invariant_of-self : goal.invariant_of-self
+invariant_of-self c =
+    let b = c.args.self.now in
+    let few = not_full _ (sym c.is_full.ensures.value ∙ c.if-is_full.false) b.most in
+    record {
+      most = omega (arith, few, c.insert.ensures.len);
+      ok = rw c.insert.ensures.items (filed_in b.rows.items c.args.row c.in-Err.place b.ok (omega arith) few c.in-Err.ensures.value).0;
+    }
 
 pub returns : goal.returns
 returns c =
-    let h = has_index (ordered_rows c.args.self.now) c.args.row.own _ c.position.ensures.value in
-    put_made (shelved c.args.self.now) c.args.row (ordered_rows c.insert.new.self) (omega arith)
-    (h ∙ sym c.if-is_some.ensures) (search rules) c.insert.ensures
+    let b = c.args.self.now in
+    let few = not_full _ (sym c.is_full.ensures.value ∙ c.if-is_full.false) b.most in
+    rw c.insert.ensures.items (filed_in b.rows.items c.args.row c.in-Err.place b.ok (omega arith) few c.in-Err.ensures.value).1

@@ -1,8 +1,14 @@
-use Rattle.ordered.proofs.Filed.{read_at, read_none}
+use Rattle.std.proofs.Common.{rules}
+use Rattle.book.proofs.Changes.{read_refused}
+use Rattle.ordered.specs.Shelved.{shelved}
+use Rattle.ordered.proofs.Filed.{read_at, has_index}
 use Rattle.ordered.proofs.methods.OrderedBookBook.read.Goals as goal
 
-pub returns-in-Some : goal.returns-in-Some
-returns-in-Some c = read_at c.args.self.now.places c.args.self.now.count c.args.own c.in-Some.i _ c.in-Some.ensures.within c.in-Some.ensures.value
+pub returns-in_err-i : goal.returns-in_err-i
+returns-in_err-i c =
+    let b = c.args.self.now in
+    let e = read_refused (shelved b) c.args.own _ _ (has_index b.rows.items c.args.own) c.in_err-i.ensures.value in
+    search rules
 
-pub returns-in-None : goal.returns-in-None
-returns-in-None c = read_none _ c.args.own c.in-None.ensures.value
+pub returns : goal.returns
+returns c = rw c.deref.ensures.0 (read_at _ c.args.self.now.rows.items c.args.own c.in_ok-i.i _ c.in_ok-i.ensures.value)

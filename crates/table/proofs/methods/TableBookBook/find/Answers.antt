@@ -1,7 +1,7 @@
-use Rattle.std.proofs.Common.{sym, ◌∙◌}
+use Rattle.std.proofs.Common.{sym, ◌∙◌, rules}
 use Rattle.book.specs.Shelves.{shows}
 use Rattle.table.specs.Sorting.{first_sorted}
 use Rattle.table.proofs.methods.TableBookBook.find.Goals as goal
 
 pub returns : goal.returns
-returns c = c.lowest.ensures ∙ sym (first_sorted (shows c.args.peer) c.args.self.now.slots c.args.self.now.ok)
+returns c = c.lowest.ensures (shows c.args.peer) (λ r b p. search rules) ∙ sym (first_sorted (shows c.args.peer) c.args.self.now.slots c.args.self.now.ok)

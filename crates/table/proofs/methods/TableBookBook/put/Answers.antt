@@ -1,39 +1,34 @@
-use Rattle.std.proofs.Common.{sym, ◌∙◌, arith, rules}
-use Rattle.book.proofs.Changes.{put_present, put_full, put_made}
+use Rattle.std.proofs.Common.{ap, is_some, sym, ◌∙◌, arith, rules}
+use Rattle.book.proofs.Changes.{put_present}
 use Rattle.table.specs.Shelved.{shelved}
-use Rattle.table.specs.Slots.{home}
-use Rattle.table.proofs.Filed.{has_place, put_place, full_place, room_place}
+use Rattle.table.proofs.Filed.{has_place, put_none, filed_in}
 use Rattle.table.proofs.methods.TableBookBook.put.Goals as goal
 
 pub returns-then-is_some : goal.returns-then-is_some
 returns-then-is_some c =
     let b = c.args.self.now in
-    let h = has_place b.slots c.args.row.own _ b.ok c.place.ensures.value in
-    sym (put_present (shelved b) c.args.row (omega arith) (h ∙ sym c.if-is_some.ensures))
+    let there = has_place b.slots c.args.row.own b.ok ∙ sym (ap is_some c.place.ensures.value) ∙ sym c.is_some.ensures ∙ c.if-is_some.true in
+    sym (put_present (shelved b) c.args.row (omega arith) there)
+
+pub returns-in_err-free : goal.returns-in_err-free
+returns-in_err-free c =
+    let b = c.args.self.now in
+    let no = has_place b.slots c.args.row.own b.ok ∙ sym (ap is_some c.place.ensures.value) ∙ sym c.is_some.ensures ∙ c.if-is_some.false in
+    let e = put_none _ b.slots c.args.row c.free_place.result b.long (omega arith) no c.free_place.ensures.value c.in_err-free.ensures.value in
+    search rules
 
 pub invariant_of-self : goal.invariant_of-self
 invariant_of-self c =
     let b = c.args.self.now in
-    let h = has_place b.slots c.args.row.own _ b.ok c.place.ensures.value in
-    record {
-      long = search rules;
-      ok =
-          (put_place b.slots c.args.row (home c.args.row.own) 16 c.in-Some.free b.ok (search rules) c.in-Some.ensures.value
-          (omega arith) (h ∙ sym c.if-is_some.ensures)).0;
-    }
+    let no = has_place b.slots c.args.row.own b.ok ∙ sym (ap is_some c.place.ensures.value) ∙ sym c.is_some.ensures ∙ c.if-is_some.false in
+    let f =
+    filed_in _ b.slots c.args.row c.free_place.result c.in_ok-free.free b.ok b.long (omega arith) no
+    c.free_place.ensures.value c.in_ok-free.ensures.value (search rules) in
+    record { long = search rules; ok = f.0 }
 
-pub returns-in-Some : goal.returns-in-Some
-returns-in-Some c =
+pub returns : goal.returns
+returns c =
     let b = c.args.self.now in
-    let h = has_place b.slots c.args.row.own _ b.ok c.place.ensures.value in
-    put_made (shelved b) c.args.row _ (omega arith) (h ∙ sym c.if-is_some.ensures)
-    (room_place b.slots (home c.args.row.own) 16 c.in-Some.free b.long (search rules) c.in-Some.ensures.value)
-    (put_place b.slots c.args.row (home c.args.row.own) 16 c.in-Some.free b.ok (search rules) c.in-Some.ensures.value
-    (omega arith) (h ∙ sym c.if-is_some.ensures)).1
-
-pub returns-in-None : goal.returns-in-None
-returns-in-None c =
-    let b = c.args.self.now in
-    let h = has_place b.slots c.args.row.own _ b.ok c.place.ensures.value in
-    sym (put_full (shelved b) c.args.row (omega arith) (h ∙ sym c.if-is_some.ensures)
-    (full_place b.slots c.args.row.own b.long c.in-None.ensures.value))
+    let no = has_place b.slots c.args.row.own b.ok ∙ sym (ap is_some c.place.ensures.value) ∙ sym c.is_some.ensures ∙ c.if-is_some.false in
+    (filed_in _ b.slots c.args.row c.free_place.result c.in_ok-free.free b.ok b.long (omega arith) no
+    c.free_place.ensures.value c.in_ok-free.ensures.value (search rules)).1

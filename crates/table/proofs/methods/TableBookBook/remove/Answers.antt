@@ -1,21 +1,19 @@
-use Rattle.std.proofs.Common.{sym, rules}
-use Rattle.book.proofs.Changes.{remove_absent, remove_made}
+use Rattle.std.proofs.Common.{rules}
+use Rattle.book.proofs.Changes.{remove_refused}
 use Rattle.table.specs.Shelved.{shelved}
-use Rattle.table.proofs.Filed.{has_place, remove_place}
+use Rattle.table.proofs.Filed.{filed_out, has_place}
 use Rattle.table.proofs.methods.TableBookBook.remove.Goals as goal
+
+pub returns-in_err-i : goal.returns-in_err-i
+returns-in_err-i c =
+    let b = c.args.self.now in
+    let e = remove_refused (shelved b) c.args.own _ _ (has_place b.slots c.args.own b.ok) c.in_err-i.ensures.value in
+    search rules
 
 pub invariant_of-self : goal.invariant_of-self
 invariant_of-self c =
     let b = c.args.self.now in
-    record { long = search rules; ok = (remove_place b.slots c.args.own c.in-Some.i b.ok c.in-Some.ensures.value).0 }
+    record { long = search rules; ok = (filed_out _ b.slots c.args.own c.in_ok-i.i b.ok c.in_ok-i.ensures.value).0 }
 
-pub returns-in-Some : goal.returns-in-Some
-returns-in-Some c =
-    let b = c.args.self.now in
-    remove_made (shelved b) c.args.own _ (has_place b.slots c.args.own _ b.ok c.in-Some.ensures.value)
-    (remove_place b.slots c.args.own c.in-Some.i b.ok c.in-Some.ensures.value).1
-
-pub returns-in-None : goal.returns-in-None
-returns-in-None c =
-    let b = c.args.self.now in
-    sym (remove_absent (shelved b) c.args.own (has_place b.slots c.args.own _ b.ok c.in-None.ensures.value))
+pub returns : goal.returns
+returns c = let b = c.args.self.now in (filed_out _ b.slots c.args.own c.in_ok-i.i b.ok c.in_ok-i.ensures.value).1

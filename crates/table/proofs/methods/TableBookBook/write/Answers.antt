@@ -1,21 +1,19 @@
-use Rattle.std.proofs.Common.{sym, rules}
-use Rattle.book.proofs.Changes.{write_absent, write_made}
+use Rattle.std.proofs.Common.{refl, rules}
+use Rattle.book.proofs.Changes.{write_refused}
 use Rattle.table.specs.Shelved.{shelved}
-use Rattle.table.proofs.Filed.{has_place, write_place}
+use Rattle.table.proofs.Filed.{filed_over, has_place}
 use Rattle.table.proofs.methods.TableBookBook.write.Goals as goal
+
+pub returns-in_err-i : goal.returns-in_err-i
+returns-in_err-i c =
+    let b = c.args.self.now in
+    let e = write_refused (shelved b) c.args.row.own _ _ (has_place b.slots c.args.row.own b.ok) c.in_err-i.ensures.value c.args.row refl in
+    search rules
 
 pub invariant_of-self : goal.invariant_of-self
 invariant_of-self c =
     let b = c.args.self.now in
-    record { long = search rules; ok = (write_place b.slots c.args.row c.in-Some.i b.ok c.in-Some.ensures.value).0 }
+    record { long = search rules; ok = (filed_over _ b.slots c.args.row c.in_ok-i.i b.ok c.in_ok-i.ensures.value).0 }
 
-pub returns-in-Some : goal.returns-in-Some
-returns-in-Some c =
-    let b = c.args.self.now in
-    write_made (shelved b) c.args.row _ (has_place b.slots c.args.row.own _ b.ok c.in-Some.ensures.value)
-    (write_place b.slots c.args.row c.in-Some.i b.ok c.in-Some.ensures.value).1
-
-pub returns-in-None : goal.returns-in-None
-returns-in-None c =
-    let b = c.args.self.now in
-    sym (write_absent (shelved b) c.args.row (has_place b.slots c.args.row.own _ b.ok c.in-None.ensures.value))
+pub returns : goal.returns
+returns c = let b = c.args.self.now in (filed_over _ b.slots c.args.row c.in_ok-i.i b.ok c.in_ok-i.ensures.value).1
