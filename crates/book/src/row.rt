@@ -32,6 +32,7 @@ pub enum Beginner {
 }
 
 /// A nonce in a row: the first `len` of the octets. A length above 32 counts as 32.
+// An array and a length, since a row is plain data of a fixed size in which any octets may stand.
 #[derive(Clone, Copy, Default)]
 pub struct KeptNonce {
     pub octets: [u8; 32],
@@ -46,6 +47,7 @@ pub struct Spis {
 }
 
 /// A row of a book. A row is filed by its own SPI.
+// The two SPIs are no Spis, since the own SPI is the key alone, and an Opening row has no peer SPI yet.
 #[derive(Clone, Copy, Default)]
 pub struct Row {
     pub own: u32,
@@ -105,6 +107,7 @@ impl From<&Nonce> for KeptNonce {
 
 impl KeptNonce {
     /// The nonce, or nothing where the octets are not 16 to 32.
+    // Not a TryFrom: there is one way to fail, and an error type would say no more than None does.
     pub fn nonce(&self) -> Option<Nonce>
         ensures { result ≡ as_nonce (kept_octets self.now) }
     {

@@ -1,10 +1,9 @@
 -- Runs that the definitions compute, so that the law speaks of something.
-use Rattle.std.proofs.Common.{◌≡◌, ℕ, true, List, [], ◌∷◌, ◌++◌, map, replicate, refl, arith}
+use Rattle.std.proofs.Common.{None, ◌≡◌, ℕ, true, List, [], ◌∷◌, ◌++◌, map, replicate, refl, arith}
 use Rattle.nonce.specs.declared.side.Side.{Side}
 use Rattle.nonce.specs.declared.side.Side.TheVariants.{A, B}
 use Rattle.book.specs.Audits.{audited}
 use Rattle.book.specs.Rows.{mirrors}
-use Rattle.book.specs.declared.audit.Finding.TheVariants.{AllMirrored}
 use Rattle.calls.specs.Numbers.{answer_number}
 use Rattle.calls.specs.declared.making.Making.{Making}
 use Rattle.calls.specs.declared.moves.Call.{Call}
@@ -84,7 +83,7 @@ collided_answers = refl
 -- both are quiet, the books agree, and the one SA that is left is B's
 collided_books :
     (is_quiet collided.world.a.outstanding ≡ true) × (is_quiet collided.world.b.outstanding ≡ true)
-    × (audited collided.world.a.shelf collided.world.b.shelf ≡ AllMirrored)
+    × (audited collided.world.a.shelf collided.world.b.shelf ≡ None)
     × (map (λ r. r.own) collided.world.a.shelf.rows ≡ 1002 ∷ [])
 unfolding create_asked rekey_asked delete_asked check_asked answered settled sa_body ts_body delete_body rekey_body failure_body carried sa_in rekeyed_in deleted_in not_found_in failure_in header_in opened offer_in request_in response_in informational_in decoded mirrors
 collided_books = (refl, refl, refl, refl)
