@@ -1,4 +1,4 @@
-use Rattle.std.proofs.Common.{◌≡◌, ℕ, ◌+◌, ◌-◌, List, length, take, ap, ◌∙◌, subst, arith}
+use Rattle.std.proofs.Common.{List, ℕ, ◌∙◌, subst, arith}
 use Rattle.channel.specs.Meaning.{Within}
 use Rattle.channel.specs.Effects.{SentAs}
 use Rattle.channel.specs.Marks.{mark, marked}
@@ -10,12 +10,9 @@ returns g c =
     let m = g.C.Channel.meaning c.args.self.now.below in
     let n = g.C.Channel.meaning c.send.new.self in
     let d = c.args.datagram.now in
-    let room = c.with_mark-room.result in
     let fit : Within (marked m) d = (omega arith, omega arith) in
-    let z : 4 + length d - 0 ≡ 4 + length d = omega arith in
-    let e : take (4 + length d - 0) room ≡ mark d = ap (λ k. take k room) z ∙ c.with_mark-room.ensures in
     let s : SentAs m n c.args.to (mark d) c.send.result =
-    subst (λ (x : List ℕ). SentAs m n c.args.to x c.send.result) e c.send.ensures.effect
+    subst (λ (x : List ℕ). SentAs m n c.args.to x c.send.result) (c.as_slice.ensures.value ∙ c.with_mark.ensures) c.send.ensures.effect
     in
     record {
       effect = sent_marked m n c.args.to d fit s;
