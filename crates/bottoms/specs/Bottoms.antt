@@ -5,8 +5,9 @@ use Rattle.channel.specs.Meaning.{Meaning, In}
 use Rattle.channel.specs.declared.sent.Sent.{Sent}
 use Rattle.channel.specs.declared.sent.Sent.TheVariants.{Taken, NotTaken}
 use Rattle.bottoms.specs.Stores.{Store, list_at, admits, added_last, added_first, store_of}
-use Rattle.bottoms.specs.declared.queue.Queue.{Queue}
-use Rattle.bottoms.specs.declared.stack.Stack.{Stack}
+use Rattle.bottoms.specs.declared.bottom.Bottom.{Bottom}
+use Rattle.bottoms.specs.declared.queue.OldestFirst.{OldestFirst}
+use Rattle.bottoms.specs.declared.stack.NewestFirst.{NewestFirst}
 
 -- what is there may come
 abbrev pub holding : ℕ → Store → Meaning
@@ -18,6 +19,9 @@ holding depth s = record {
 }
 
 -- the queue: what is sent comes last
+abbrev pub Queue : Type 0
+Queue = Bottom OldestFirst
+
 abbrev pub queue_store : Queue → Store
 queue_store q = store_of q.lanes
 
@@ -28,6 +32,9 @@ abbrev pub queue_sent : Store → Side → List ℕ → Sent × Store
 queue_sent s to d = cond (admits s to d) (Taken, added_last s to d) (NotTaken, s)
 
 -- the stack: what is sent comes first
+abbrev pub Stack : Type 0
+Stack = Bottom NewestFirst
+
 abbrev pub stack_store : Stack → Store
 stack_store q = store_of q.lanes
 

@@ -2,6 +2,8 @@
 ghost use Rattle.std.specs.Prelude.{◌≡◌};
 ghost use Rattle.bottoms.specs.Refusals.{make_number};
 
+use std::alloc::AllocError;
+
 /// Why no channel is made; as a number, that of the rule.
 #[derive(Clone, Copy, PartialEq, Eq, Debug)]
 pub enum MakeRefusal {
@@ -17,5 +19,15 @@ impl MakeRefusal {
         ensures { result ≡ make_number self }
     {
         self as u16
+    }
+}
+
+impl From<AllocError> for MakeRefusal {
+    ghost use Rattle.bottoms.specs.declared.refusal.MakeRefusal.TheVariants.{NoMemory};
+
+    ghost from_gives = { λ _ refusal. refusal ≡ NoMemory };
+
+    fn from(_error: AllocError) -> MakeRefusal {
+        MakeRefusal::NoMemory
     }
 }
