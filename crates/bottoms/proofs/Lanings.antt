@@ -1,11 +1,14 @@
 -- The sizes in the lanes after a change.
-use Rattle.std.proofs.Common.{◌≡◌, ℕ, true, List, [], ◌∷◌, map, drop}
+use Rattle.std.proofs.Common.{◌≡◌, ℕ, true, List, [], ◌∷◌, ◌++◌, map, drop, Ok, Err, Result}
+use Rattle.std.specs.Result.{OnOk, OnErr}
 use Rattle.std.proofs.lemmas.Bool.{and_parts}
+use Rattle.std.proofs.lemmas.List.{map_push}
 use Rattle.arrayvec.specs.ArrayVec.{ArrayVec}
 use Rattle.nonce.specs.declared.side.Side.{Side}
 use Rattle.nonce.specs.declared.side.Side.TheVariants.{A, B}
 use Rattle.bottoms.specs.Both.{at, with_at}
-use Rattle.bottoms.specs.Datagrams.{octets_of, lane_list, all_sized}
+use Rattle.bottoms.specs.Datagrams.{octets_of, lane_list, is_sized, all_sized}
+use Rattle.bottoms.specs.Places.{sized_last}
 use Rattle.bottoms.specs.declared.lanes.Lanes.{Lanes}
 
 -- without the first
@@ -14,6 +17,20 @@ pub sizes_rest :
     all_sized longest (map octets_of (drop 1 ds)) ≡ true
 sizes_rest longest [] h = h
 sizes_rest longest (d ∷ ds) h = (and_parts _ _ h).1
+
+-- with one more behind the others
+module _ (longest : ℕ) (lane x : ArrayVec (ArrayVec ℕ)) (d : ArrayVec ℕ) where
+  pub sizes_more :
+      is_sized longest d.items ≡ true → all_sized longest (lane_list lane) ≡ true → x.items ≡ lane.items ++ (d ∷ []) →
+      all_sized longest (lane_list x) ≡ true
+  sizes_more h k e = rw (e, map_push) (sized_last longest (lane_list lane) d.items k h)
+
+  -- if there was room for it
+  pub sizes_tried :
+      {E : Type 0} (r : Result (Unit {0}) E) → is_sized longest d.items ≡ true → all_sized longest (lane_list lane) ≡ true →
+      OnOk r (x.items ≡ lane.items ++ (d ∷ [])) → OnErr r (x ≡ lane) → all_sized longest (lane_list x) ≡ true
+  sizes_tried (Ok _) h k e _ = sizes_more h k e
+  sizes_tried (Err _) h k _ f = rw f k
 
 -- with another lane at a side
 pub sizes_with :

@@ -39,37 +39,20 @@ impl Lanes {
         (1..=self.longest).contains(&octets.len()) && !self.lists.at(to).is_full()
     }
 
-    /// Adds a datagram behind the others.
-    fn add_last(&mut self, to: Side, octets: &[u8])
-        requires { admits (store_of self.old) to octets.now ≡ true }
-        ensures { store_of self.new ≡ added_last (store_of self.old) to octets.now }
-    {
-        self.lists.at_mut(to).push(datagram(octets));
-    }
-
-    /// Adds a datagram before the others.
-    fn add_first(&mut self, to: Side, octets: &[u8])
-        requires { admits (store_of self.old) to octets.now ≡ true }
-        ensures { store_of self.new ≡ added_first (store_of self.old) to octets.now }
-    {
-        self.lists.at_mut(to).insert(0, datagram(octets));
-    }
-
     /// Adds a datagram as its fate has it.
     pub(crate) fn add(&mut self, fate: Fate, to: Side, octets: &[u8])
         requires { admits (store_of self.old) to octets.now ≡ true }
         ensures { store_of self.new ≡ fated fate (store_of self.old) to octets.now }
     {
+        let lane = self.lists.at_mut(to);
         match fate {
-            Fate::Pass => self.add_last(to, octets),
+            Fate::Pass => lane.push(datagram(octets)),
             Fate::Lose => {}
             Fate::Double => {
-                self.add_last(to, octets);
-                if self.admits(to, octets) {
-                    self.add_last(to, octets);
-                }
+                lane.push(datagram(octets));
+                let _fits = lane.try_push(datagram(octets));
             }
-            Fate::Jump => self.add_first(to, octets),
+            Fate::Jump => lane.insert(0, datagram(octets)),
         }
     }
 
