@@ -1,5 +1,7 @@
 -- The sizes in the lanes after a change.
-use Rattle.std.proofs.Common.{◌≡◌, ℕ, true, List, [], ◌∷◌, ◌++◌, map, drop, Ok, Err, Result}
+use Rattle.std.proofs.Common.{◌≡◌, ℕ, true, List, [], ◌∷◌, ◌++◌, map, Some, None, Option, Ok, Err, Result}
+use Rattle.std.specs.List.{remove}
+use Rattle.std.specs.Option.{OnSome, IfNone}
 use Rattle.std.specs.Result.{OnOk, OnErr}
 use Rattle.std.proofs.lemmas.Bool.{and_parts}
 use Rattle.std.proofs.lemmas.List.{map_push}
@@ -8,15 +10,23 @@ use Rattle.nonce.specs.declared.side.Side.{Side}
 use Rattle.nonce.specs.declared.side.Side.TheVariants.{A, B}
 use Rattle.bottoms.specs.Both.{at, with_at}
 use Rattle.bottoms.specs.Datagrams.{octets_of, lane_list, is_sized, all_sized}
-use Rattle.bottoms.specs.Places.{sized_last}
+use Rattle.bottoms.specs.Places.{admitted_parts, sized_last}
+use Rattle.bottoms.specs.Stores.{list_at, admits, store_of}
 use Rattle.bottoms.specs.declared.lanes.Lanes.{Lanes}
 
--- without the first
-pub sizes_rest :
-    (longest : ℕ) (ds : List (ArrayVec ℕ)) → all_sized longest (map octets_of ds) ≡ true →
-    all_sized longest (map octets_of (drop 1 ds)) ≡ true
-sizes_rest longest [] h = h
-sizes_rest longest (d ∷ ds) h = (and_parts _ _ h).1
+-- what is admitted has the size of a datagram
+pub fit : (l : Lanes) (to : Side) (octets : List ℕ) → admits (store_of l) to octets ≡ true → is_sized l.longest octets ≡ true
+fit l to octets h = (admitted_parts l.longest (list_at (store_of l) to) octets h).0
+
+-- without the first, if there is one
+pub sizes_popped :
+    (longest : ℕ) (lane x : ArrayVec (ArrayVec ℕ)) (r : Option (ArrayVec ℕ)) → all_sized longest (lane_list lane) ≡ true →
+    OnSome r (x.items ≡ remove lane.items 0) → IfNone r (x ≡ lane) → all_sized longest (lane_list x) ≡ true
+sizes_popped longest lane x None h _ e = rw e h
+sizes_popped longest lane x (Some _) h e _ = rw e (rest lane.items h) where
+  rest : (ds : List (ArrayVec ℕ)) → all_sized longest (map octets_of ds) ≡ true → all_sized longest (map octets_of (remove ds 0)) ≡ true
+  rest [] h = h
+  rest (d ∷ ds) h = (and_parts _ _ h).1
 
 -- with one more behind the others
 module _ (longest : ℕ) (lane x : ArrayVec (ArrayVec ℕ)) (d : ArrayVec ℕ) where

@@ -62,10 +62,10 @@ impl Lanes {
         ensures exactly { (result, buffer.new, store_of self.new) ≡ received (store_of self.old) at buffer.old }
         ensures kept { IfNone result (self.new ≡ self.old) }
     {
-        if buffer.len() < self.longest || self.lists.at(at).is_empty() {
+        if buffer.len() < self.longest {
             return None;
         }
-        let first = self.lists.at_mut(at).remove(0);
+        let first = self.lists.at_mut(at).pop_at(0)?;
         buffer[..first.len()].copy_from_slice(&first);
         Some(first.len())
     }
