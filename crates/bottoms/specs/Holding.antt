@@ -12,7 +12,7 @@ use Rattle.bottoms.specs.Datagrams.{is_sized, all_sized, first_of}
 use Rattle.bottoms.specs.Stores.{Store, list_at, with_list, admits, serves, with_left, received, added_last, added_first, store_of}
 use Rattle.bottoms.specs.Bottoms.{holding}
 use Rattle.bottoms.specs.declared.lanes.Lanes.{Lanes}
-use Rattle.bottoms.specs.Places.{sized_parts, sized_from}
+use Rattle.bottoms.specs.Sizes.{sized_parts, sized_from}
 use Rattle.bottoms.specs.Fates.{fated}
 use Rattle.bottoms.specs.declared.rule.Fate.{Fate}
 use Rattle.bottoms.specs.declared.rule.Fate.TheVariants.{Pass, Lose, Double, Jump}

@@ -6,4 +6,4 @@ pub mod Fates
 pub mod Bottoms
 pub mod Traces
 pub mod Holding
-pub mod Places
+pub mod Sizes

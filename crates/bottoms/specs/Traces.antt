@@ -5,7 +5,7 @@ use Rattle.channel.specs.Meaning.{Meaning}
 use Rattle.channel.specs.declared.sent.Sent.{Sent}
 use Rattle.channel.specs.declared.sent.Sent.TheVariants.{Taken, NotTaken}
 use Rattle.bottoms.specs.Stores.{Store, admits, received, empty, in_range, store_of}
-use Rattle.bottoms.specs.Bottoms.{holding}
+use Rattle.bottoms.specs.Bottoms.{means}
 use Rattle.bottoms.specs.Fates.{next_fate, fated}
 use Rattle.bottoms.specs.declared.bottom.Bottom.{Bottom}
 use Rattle.bottoms.specs.declared.refusal.MakeRefusal.{MakeRefusal}
@@ -24,7 +24,7 @@ abbrev pub traced : Trace → Traced
 traced t = record { store = store_of t.lanes; fates = t.rule }
 
 abbrev pub trace_means : Trace → Meaning
-trace_means t = holding 0 (store_of t.lanes)
+trace_means = means 0
 
 -- a send uses a fate if it is taken
 abbrev pub trace_sent : Traced → Side → List ℕ → Sent × Traced

@@ -3,8 +3,8 @@ ghost use Rattle.std.specs.Prelude.{◌≡◌, ◌<◌, cond, [], length, None, 
 ghost use Rattle.std.specs.Result.{result_map_both};
 ghost use Rattle.channel.specs.Meaning.{Within};
 ghost use Rattle.channel.specs.Effects.{SentAs, ReceivedAs};
-ghost use Rattle.bottoms.specs.Stores.{list_at, admits, received, fresh, store_of};
-ghost use Rattle.bottoms.specs.Bottoms.{holding};
+ghost use Rattle.bottoms.specs.Stores.{admits, received, fresh, store_of};
+ghost use Rattle.bottoms.specs.Bottoms.{means};
 ghost use Rattle.bottoms.specs.Fates.{sent_by};
 ghost use Rattle.bottoms.specs.Holding.{holding_sound};
 
@@ -37,7 +37,7 @@ impl<R: Rule + Default> Bottom<R> {
 }
 
 impl<R: Rule> Channel for Bottom<R> {
-    ghost meaning = { λ b. holding R.Rule.depth (store_of b.lanes) };
+    ghost meaning = { means R.Rule.depth };
 
     ghost sound = { λ b. holding_sound R.Rule.depth b.lanes };
 
@@ -46,8 +46,8 @@ impl<R: Rule> Channel for Bottom<R> {
     }
 
     fn send(&mut self, to: Side, datagram: &[u8]) -> Sent
-        ensures effect { SentAs (holding R.Rule.depth (store_of self.old.lanes)) (holding R.Rule.depth (store_of self.new.lanes)) to datagram.now result }
-        ensures unfit { (Within (holding R.Rule.depth (store_of self.old.lanes)) datagram.now → ⊥) → (result ≡ Sent.NotTaken) × (self.new ≡ self.old) }
+        ensures effect { SentAs (means R.Rule.depth self.old) (means R.Rule.depth self.new) to datagram.now result }
+        ensures unfit { (Within (means R.Rule.depth self.old) datagram.now → ⊥) → (result ≡ Sent.NotTaken) × (self.new ≡ self.old) }
         ensures exactly { (result, store_of self.new.lanes) ≡ sent_by (R.Rule.fate self.old.rule) (store_of self.old.lanes) to datagram.now }
         ensures rule { self.new.rule ≡ cond (admits (store_of self.old.lanes) to datagram.now) (R.Rule.rest self.old.rule) self.old.rule }
     {
@@ -60,9 +60,9 @@ impl<R: Rule> Channel for Bottom<R> {
     }
 
     fn receive(&mut self, at: Side, buffer: &mut [u8]) -> Option<usize>
-        ensures effect { ReceivedAs (holding R.Rule.depth (store_of self.old.lanes)) (holding R.Rule.depth (store_of self.new.lanes)) at buffer.old buffer.new result }
-        ensures short { length buffer.old < (store_of self.old.lanes).longest → (result ≡ None) × (self.new ≡ self.old) }
-        ensures idle { 0 < R.Rule.depth → list_at (store_of self.old.lanes) at ≡ [] → (result ≡ None) × (self.new ≡ self.old) }
+        ensures effect { ReceivedAs (means R.Rule.depth self.old) (means R.Rule.depth self.new) at buffer.old buffer.new result }
+        ensures short { length buffer.old < (means R.Rule.depth self.old).longest → (result ≡ None) × (self.new ≡ self.old) }
+        ensures idle { 0 < (means R.Rule.depth self.old).depth → (means R.Rule.depth self.old).waiting at ≡ [] → (result ≡ None) × (self.new ≡ self.old) }
         ensures exactly { (result, buffer.new, store_of self.new.lanes) ≡ received (store_of self.old.lanes) at buffer.old }
         ensures rule { self.new.rule ≡ self.old.rule }
     {

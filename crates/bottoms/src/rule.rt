@@ -18,7 +18,8 @@ pub enum Fate {
 
 /// What has a fate for each datagram that is taken.
 pub trait Rule {
-    /// How many datagrams may wait at an end while each is there just as often as it is listed.
+    /// How many datagrams may wait at an end while each is there just as often as it is listed; 0, where a fate may lose or
+    /// double one.
     ghost depth: { ℕ };
 
     /// The next fate, and the rule after it was used.
