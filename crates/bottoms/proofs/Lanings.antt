@@ -1,75 +1,52 @@
--- A lane before and after a change.
-use Rattle.std.proofs.Common.{◌≡◌, ℕ, ◌+◌, ◌-◌, ◌<◌, ◌≤◌, true, List, [], ◌∷◌, ◌++◌, length, get_or, take, drop, set, Some, sym, ap, ◌∙◌, arith}
-use Rattle.std.proofs.lemmas.Bool.{and_from, and_parts, leb-true, ltb-true}
-use Rattle.bottoms.specs.Datagrams.{octets_of, in_places, is_sized, all_sized, admitted, served, first_of}
-use Rattle.bottoms.specs.Lanes.{lane_list}
-use Rattle.bottoms.specs.declared.datagram.Datagram.{Datagram}
-use Rattle.bottoms.specs.declared.lane.Lane.{Lane}
-use Rattle.bottoms.specs.Places.{as_many, filled_last, filled_first, moved_up, admitted_parts, sized_parts, sized_last}
+-- The sizes in the lanes after a change.
+use Rattle.std.proofs.Common.{◌≡◌, ℕ, true, List, [], ◌∷◌, ◌++◌, map, Some, None, Option, Ok, Err, Result}
+use Rattle.std.specs.List.{remove}
+use Rattle.std.specs.Option.{OnSome, IfNone}
+use Rattle.std.specs.Result.{OnOk, OnErr}
+use Rattle.std.proofs.lemmas.Bool.{and_parts}
+use Rattle.std.proofs.lemmas.List.{map_push}
+use Rattle.arrayvec.specs.ArrayVec.{ArrayVec}
+use Rattle.nonce.specs.declared.side.Side.{Side}
+use Rattle.nonce.specs.declared.side.Side.TheVariants.{A, B}
+use Rattle.bottoms.specs.Both.{at, with_at}
+use Rattle.bottoms.specs.Datagrams.{octets_of, lane_list, is_sized, all_sized}
+use Rattle.bottoms.specs.Sizes.{admitted_parts, sized_last}
+use Rattle.bottoms.specs.Stores.{list_at, admits, store_of}
+use Rattle.bottoms.specs.declared.lanes.Lanes.{Lanes}
 
-module _ (l : Lane) where
-  pub lane_length : length (lane_list l) ≡ l.count
-  lane_length = as_many octets_of l.places l.count (omega (arith, l.few, l.whole))
+-- what is admitted has the size of a datagram
+pub fit : (l : Lanes) (to : Side) (octets : List ℕ) → admits (store_of l) to octets ≡ true → is_sized l.longest octets ≡ true
+fit l to octets h = (admitted_parts l.longest (list_at (store_of l) to) octets h).0
 
-  -- where a datagram is admitted, there is a place for it
-  module _ (d : List ℕ) (h : admitted l.longest (lane_list l) d ≡ true) where
-    pub has_place : l.count < 32
-    has_place = omega (arith, lane_length, (admitted_parts l.longest (lane_list l) d h).2)
+-- without the first, if there is one
+pub sizes_popped :
+    (longest : ℕ) (lane x : ArrayVec (ArrayVec ℕ)) (r : Option (ArrayVec ℕ)) → all_sized longest (lane_list lane) ≡ true →
+    OnSome r (x.items ≡ remove lane.items 0) → IfNone r (x ≡ lane) → all_sized longest (lane_list x) ≡ true
+sizes_popped longest lane x None h _ e = rw e h
+sizes_popped longest lane x (Some _) h e _ = rw e (rest lane.items h) where
+  rest : (ds : List (ArrayVec ℕ)) → all_sized longest (map octets_of ds) ≡ true → all_sized longest (map octets_of (remove ds 0)) ≡ true
+  rest [] h = h
+  rest (d ∷ ds) h = (and_parts _ _ h).1
 
-    pub fits_place : length d ≤ 256
-    fits_place = omega (arith, l.most, (admitted_parts l.longest (lane_list l) d h).1)
+-- with one more behind the others
+module _ (longest : ℕ) (lane x : ArrayVec (ArrayVec ℕ)) (d : ArrayVec ℕ) where
+  pub sizes_more :
+      is_sized longest d.items ≡ true → all_sized longest (lane_list lane) ≡ true → x.items ≡ lane.items ++ (d ∷ []) →
+      all_sized longest (lane_list x) ≡ true
+  sizes_more h k e = rw (e, map_push) (sized_last longest (lane_list lane) d.items k h)
 
-    module _ (x : Datagram) (e : octets_of x ≡ d) where
-      pub list_last : in_places (l.count + 1) (set l.places l.count x) ≡ lane_list l ++ (d ∷ [])
-      list_last =
-          filled_last octets_of l.places l.count x (omega (arith, has_place, l.whole))
-          ∙ ap (λ y. lane_list l ++ (y ∷ [])) e
+  -- if there was room for it
+  pub sizes_tried :
+      {E : Type 0} (r : Result (Unit {0}) E) → is_sized longest d.items ≡ true → all_sized longest (lane_list lane) ≡ true →
+      OnOk r (x.items ≡ lane.items ++ (d ∷ [])) → OnErr r (x ≡ lane) → all_sized longest (lane_list x) ≡ true
+  sizes_tried (Ok _) h k e _ = sizes_more h k e
+  sizes_tried (Err _) h k _ f = rw f k
 
-      pub sizes_last : all_sized l.longest (in_places (l.count + 1) (set l.places l.count x)) ≡ true
-      sizes_last =
-          ap (all_sized l.longest) list_last
-          ∙ sized_last l.longest (lane_list l) d l.sizes (admitted_parts l.longest (lane_list l) d h).0
-
-      -- the others moved on by one place
-      module _ (places : List Datagram) (r : places ≡ drop (length l.places - 1) l.places ++ take (length l.places - 1) l.places) where
-        pub list_first : in_places (l.count + 1) (set places 0 x) ≡ d ∷ lane_list l
-        list_first =
-            ap (λ ys. in_places (l.count + 1) (set ys 0 x)) r
-            ∙ filled_first octets_of l.places l.count (length l.places - 1) x (omega (arith, l.whole)) (omega (arith, has_place, l.whole))
-            ∙ ap (λ y. y ∷ lane_list l) e
-
-        pub sizes_first : all_sized l.longest (in_places (l.count + 1) (set places 0 x)) ≡ true
-        sizes_first =
-            ap (all_sized l.longest) list_first
-            ∙ and_from _ _ (admitted_parts l.longest (lane_list l) d h).0 l.sizes
-
-  -- Where a buffer is served, the first is taken, and the others move up.
-  module _ (was : List ℕ) (h : served l.longest (lane_list l) was ≡ true) (default : Datagram) where
-    pub one_there : 1 ≤ l.count
-    one_there = omega (arith, lane_length, ltb-true 0 (length (lane_list l)) (and_parts _ _ h).1)
-
-    abbrev first : List ℕ
-    first = octets_of (get_or l.places 0 default)
-
-    abbrev moved : List Datagram
-    moved = drop 1 l.places ++ take 1 l.places
-
-    list_split : lane_list l ≡ first ∷ in_places (l.count - 1) moved
-    list_split = moved_up octets_of l.places l.count default one_there (omega (arith, l.few, l.whole))
-
-    parts : (is_sized l.longest first ≡ true) × (all_sized l.longest (in_places (l.count - 1) moved) ≡ true)
-    parts = and_parts _ _ (sym (ap (all_sized l.longest) list_split) ∙ l.sizes)
-
-    pub first_fits : length first ≤ length was
-    first_fits =
-        omega (arith, leb-true l.longest (length was) (and_parts _ _ h).0, (sized_parts l.longest first parts.0).1)
-
-    module _ (places : List Datagram) (r : places ≡ moved) where
-      pub sizes_left : all_sized l.longest (in_places (l.count - 1) places) ≡ true
-      sizes_left = ap (λ ys. all_sized l.longest (in_places (l.count - 1) ys)) r ∙ parts.1
-
-      -- so this is what the lane gives
-      pub first_out :
-          (k : ℕ) (is : List ℕ) → k ≡ length first → is ≡ first ++ drop (length first) was →
-          (Some k, is, in_places (l.count - 1) places) ≡ first_of (lane_list l) was
-      first_out k is e f = rw (e, f, r, list_split)
+-- with another lane at a side
+pub sizes_with :
+    (l : Lanes) (side : Side) (x : ArrayVec (ArrayVec ℕ)) → all_sized l.longest (lane_list x) ≡ true → (e : Side) →
+    all_sized l.longest (lane_list (at (with_at l.lists side x) e)) ≡ true
+sizes_with l A x h A = h
+sizes_with l A x h B = l.sizes B
+sizes_with l B x h A = l.sizes A
+sizes_with l B x h B = h

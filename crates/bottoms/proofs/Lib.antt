@@ -1,2 +1,1 @@
 pub mod Lanings
-pub mod Fating

@@ -1,13 +1,14 @@
--- Datagrams in places, as lists of octets.
-use Rattle.std.specs.Prelude.{ℕ, Bool, true, ◌&&◌, List, [], ◌∷◌, ◌++◌, map, length, take, drop, Some, None, Option, nat_le, nat_lt}
-use Rattle.bottoms.specs.declared.datagram.Datagram.{Datagram}
+-- Datagrams, and lists of them.
+use Rattle.std.specs.Prelude.{ℕ, Bool, true, ◌&&◌, List, [], ◌∷◌, ◌++◌, map, length, drop, Some, None, Option, nat_le, nat_lt}
+use Rattle.arrayvec.specs.ArrayVec.{ArrayVec}
 
-abbrev pub octets_of : Datagram → List ℕ
-octets_of d = take d.len d.octets
+-- the octets of a datagram
+abbrev pub octets_of : ArrayVec ℕ → List ℕ
+octets_of d = d.items
 
--- the datagrams in the first n places
-abbrev pub in_places : ℕ → List Datagram → List (List ℕ)
-in_places n places = map octets_of (take n places)
+-- what a lane holds
+abbrev pub lane_list : ArrayVec (ArrayVec ℕ) → List (List ℕ)
+lane_list l = map octets_of l.items
 
 -- whether octets have the length of a datagram
 abbrev pub is_sized : ℕ → List ℕ → Bool

@@ -1,8 +1,11 @@
--- The fates of what is sent over a trace.
-use Rattle.std.specs.Prelude.{ℕ, cond, List, [], ◌∷◌, drop, vec_items, ◌==◌}
-use Rattle.bottoms.specs.declared.fate.Fate.{Fate}
-use Rattle.bottoms.specs.declared.fate.Fate.TheVariants.{Pass, Lose, Double, Jump}
-use Rattle.bottoms.specs.declared.fate.Fates.{Fates}
+-- The fates of what is sent, and what each leaves.
+use Rattle.std.specs.Prelude.{ℕ, cond, List, [], ◌∷◌, ◌==◌}
+use Rattle.nonce.specs.declared.side.Side.{Side}
+use Rattle.channel.specs.declared.sent.Sent.{Sent}
+use Rattle.channel.specs.declared.sent.Sent.TheVariants.{Taken, NotTaken}
+use Rattle.bottoms.specs.Stores.{Store, admits, added_last, added_first}
+use Rattle.bottoms.specs.declared.rule.Fate.{Fate}
+use Rattle.bottoms.specs.declared.rule.Fate.TheVariants.{Pass, Lose, Double, Jump}
 
 -- the letters l (108), 2 (50) and j (106); any other means p
 abbrev pub fate_of : ℕ → Fate
@@ -13,6 +16,13 @@ abbrev pub next_fate : List ℕ → Fate
 next_fate [] = Pass
 next_fate (letter ∷ letters) = fate_of letter
 
--- the letters that are left
-abbrev pub fates_left : Fates → List ℕ
-fates_left f = drop f.used (vec_items f.letters)
+-- what a datagram that is taken leaves, by its fate
+abbrev pub fated : Fate → Store → Side → List ℕ → Store
+fated Pass s to d = added_last s to d
+fated Lose s to d = s
+fated Double s to d = cond (admits (added_last s to d) to d) (added_last (added_last s to d) to d) (added_last s to d)
+fated Jump s to d = added_first s to d
+
+-- what a send answers and leaves, where the next fate is this one
+abbrev pub sent_by : Fate → Store → Side → List ℕ → Sent × Store
+sent_by fate s to d = cond (admits s to d) (Taken, fated fate s to d) (NotTaken, s)

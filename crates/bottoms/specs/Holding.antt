@@ -1,19 +1,21 @@
 -- A channel that holds datagrams keeps the rules of a channel.
-use Rattle.std.specs.Prelude.{◌≡◌, ℕ, ◌<◌, ◌≤◌, true, ◌⊎◌, List, [], ◌∷◌, ◌++◌, length, take, drop, Some, None, Option, refl}
+use Rattle.std.specs.Prelude.{◌≡◌, ℕ, ◌<◌, ◌≤◌, Bool, true, false, cond, ◌⊎◌, List, [], ◌∷◌, ◌++◌, length, take, drop, Some, None, Option, refl, nat_le, nat_lt}
 use Rattle.std.proofs.Common.{sym, ap, subst, ◌∙◌, inl, inr, ⊎_elim, arith}
 use Rattle.std.proofs.lemmas.List.{append-nil, take_at, drop_at}
-use Rattle.std.proofs.lemmas.Bool.{and_parts, leb-true, ltb-true, cond-true}
+use Rattle.std.proofs.lemmas.Bool.{and_from, and_parts, both_ways, cases_Bool, leb-true, le-leb, ltb-true, lt-ltb, cond-true, cond-false}
 use Rattle.nonce.specs.declared.side.Side.{Side}
 use Rattle.nonce.specs.declared.side.Side.TheVariants.{A, B}
-use Rattle.channel.specs.Meaning.{In, Without, Within, Sound, other}
+use Rattle.channel.specs.Meaning.{In, Without, Sound, other}
 use Rattle.channel.specs.Effects.{SentAs, ReceivedAs}
-use Rattle.channel.specs.declared.sent.Sent.TheVariants.{Taken}
+use Rattle.channel.specs.declared.sent.Sent.TheVariants.{Taken, NotTaken}
 use Rattle.bottoms.specs.Datagrams.{is_sized, all_sized, first_of}
-use Rattle.bottoms.specs.Lanes.{lane_list}
 use Rattle.bottoms.specs.Stores.{Store, list_at, with_list, admits, serves, with_left, received, added_last, added_first, store_of}
 use Rattle.bottoms.specs.Bottoms.{holding}
 use Rattle.bottoms.specs.declared.lanes.Lanes.{Lanes}
-use Rattle.bottoms.specs.Places.{sized_parts, admitted_parts}
+use Rattle.bottoms.specs.Sizes.{sized_parts, sized_from}
+use Rattle.bottoms.specs.Fates.{fated}
+use Rattle.bottoms.specs.declared.rule.Fate.{Fate}
+use Rattle.bottoms.specs.declared.rule.Fate.TheVariants.{Pass, Lose, Double, Jump}
 
 -- ---- lists
 
@@ -50,15 +52,15 @@ both P B B h k = h
 
 -- ---- what holds always
 
-lanes_sized : (l : Lanes) (e : Side) → all_sized l.a.longest (list_at (store_of l) e) ≡ true
-lanes_sized l A = l.a.sizes
-lanes_sized l B = subst (λ (n : ℕ). all_sized n (lane_list l.b) ≡ true) l.even l.b.sizes
+lanes_sized : (l : Lanes) (e : Side) → all_sized l.longest (list_at (store_of l) e) ≡ true
+lanes_sized l A = l.sizes A
+lanes_sized l B = l.sizes B
 
 module _ (depth : ℕ) (l : Lanes) where
   pub holding_sound : Sound (holding depth (store_of l))
   holding_sound = record {
-    most = l.a.most;
-    sized = λ e d i. sized_parts l.a.longest d (in_sized l.a.longest (list_at (store_of l) e) d (lanes_sized l e) i);
+    most = l.most;
+    sized = λ e d i. sized_parts l.longest d (in_sized l.longest (list_at (store_of l) e) d (lanes_sized l e) i);
     listed = λ e d _ i. i;
     comes = λ e d _ i. i;
   }
@@ -90,118 +92,120 @@ module _ (s : Store) (to : Side) (d : List ℕ) where
   pub grown_first : (next : Store) → Grown s to d next → Grown s to d (added_first next to d)
   grown_first next g = grown_list next _ g (λ x i. ⊎_elim (λ e. inr e) (λ j. inl j) i)
 
-module _ (depth : ℕ) (s : Store) (to : Side) (d : List ℕ) where
-  pub taken_within : true ≡ admits s to d → Within (holding depth s) d
-  taken_within t = sized_parts s.longest d (admitted_parts s.longest (list_at s to) d (sym t)).0
+  -- one more
+  pub grown_once : Grown s to d (added_last s to d)
+  grown_once = grown_last s grown_none
 
-  -- if there is a depth, d is there once more
-  pub taken_sent :
-      (next : Store) → Grown s to d next → (0 < depth → Without (list_at next to) d (list_at s to)) →
-      SentAs (holding depth s) (holding depth next) to d Taken
-  taken_sent next g adds = record {
-    longest = g.long;
-    here = λ x i. ⊎_elim (λ j. inl j) (λ e. inr (refl, e)) (g.here x i);
-    there = λ x i. subst (In x) g.there i;
-    adds = λ _ l. record { taken = refl; depth = refl; here = adds (omega (arith, l)); there = g.there };
+  grown_twice : (b : Bool) → Grown s to d (cond b (added_last (added_last s to d) to d) (added_last s to d))
+  grown_twice true = grown_last (added_last s to d) grown_once
+  grown_twice false = grown_once
+
+  pub grown_by : (fate : Fate) → Grown s to d (fated fate s to d)
+  grown_by Pass = grown_once
+  grown_by Lose = grown_none
+  grown_by Double = grown_twice (admits (added_last s to d) to d)
+  grown_by Jump = grown_first s grown_none
+
+  -- what is added once is there once more
+  pub once_more : (fate : Fate) → (fate ≡ Pass) ⊎ (fate ≡ Jump) → Without (list_at (fated fate s to d) to) d (list_at s to)
+  once_more fate (inl e) = rw e (record {
+    front = list_at s to;
+    back = [];
+    was = list_here s to (list_at s to ++ (d ∷ []));
+    left = sym (append-nil (list_at s to));
+  })
+  once_more fate (inr e) = rw e (record { front = []; back = list_at s to; was = list_here s to (d ∷ list_at s to); left = refl })
+
+module _ (depth : ℕ) (s : Store) (to : Side) (d : List ℕ) where
+  -- a fate that adds once, if there is a depth
+  pub fated_sent :
+      (fate : Fate) → (0 < depth → (fate ≡ Pass) ⊎ (fate ≡ Jump)) → (after : Store) → after ≡ fated fate s to d →
+      SentAs (holding depth s) (holding depth after) to d Taken
+  fated_sent fate once after e =
+      let g = grown_by s to d fate in
+      rw e (record {
+        longest = g.long;
+        here = λ x i. ⊎_elim (λ j. inl j) (λ f. inr (refl, f)) (g.here x i);
+        there = λ x i. subst (In x) g.there i;
+        adds = λ _ l. record { taken = refl; depth = refl; here = once_more s to d fate (once (omega (arith, l))); there = g.there };
+      })
+
+  -- what is not admitted is too long, or the end is full
+  pub refused_sent : depth ≤ 32 → admits s to d ≡ false → SentAs (holding depth s) (holding depth s) to d NotTaken
+  refused_sent few full = record {
+    longest = refl;
+    here = λ x i. inl i;
+    there = λ x i. i;
+    adds = λ fit l.
+        let room : length (list_at s to) < 32 = omega (arith, l, few) in
+        absurd (both_ways (admits s to d) full (and_from _ _ (sized_from s.longest d fit.0 fit.1) (lt-ltb (length (list_at s to)) 32 room)));
   }
 
-  pub last_sent : (after : Store) → after ≡ added_last s to d → SentAs (holding depth s) (holding depth after) to d Taken
-  last_sent after e =
-      rw e (taken_sent (added_last s to d) (grown_last s to d s (grown_none s to d)) (λ _. record {
-        front = list_at s to;
-        back = [];
-        was = list_here s to (list_at s to ++ (d ∷ []));
-        left = sym (append-nil (list_at s to));
-      }))
+-- ---- a receive
 
-  pub first_sent :
-      (after : Store) → after ≡ added_first s to d → SentAs (holding depth s) (holding depth after) to d Taken
-  first_sent after e =
-      rw e (taken_sent (added_first s to d) (grown_first s to d s (grown_none s to d)) (λ _. record {
-        front = [];
-        back = list_at s to;
-        was = list_here s to (d ∷ list_at s to);
-        left = refl;
-      }))
-
--- ---- a receive that gives
-
--- the first of a list
-record Split (s : Store) (side : Side) (was : List ℕ) (k : ℕ) (is : List ℕ) (after : Store) : Type 0 where
-  first : List ℕ
-  rest : List (List ℕ)
-  list : list_at s side ≡ first ∷ rest
-  len : k ≡ length first
-  buffer : is ≡ first ++ drop (length first) was
-  store : after ≡ with_list s side rest
-
-module _ (depth : ℕ) (l : Lanes) (side : Side) (was : List ℕ) (h : true ≡ serves (store_of l) side was) where
+module _ (depth : ℕ) (l : Lanes) (side : Side) (was : List ℕ) where
   abbrev s : Store
   s = store_of l
 
-  wide : s.longest ≤ length was
-  wide = leb-true s.longest (length was) (and_parts _ _ (sym h)).0
+  -- the first is given
+  given :
+      (first : List ℕ) (rest : List (List ℕ)) → list_at s side ≡ first ∷ rest → s.longest ≤ length was →
+      ReceivedAs (holding depth s) (holding depth (with_list s side rest)) side was (first ++ drop (length first) was) (Some (length first))
+  given first rest list wide =
+      let here = list_here s side rest in
+      let there = list_there s side rest in
+      let front : take (length first) (first ++ drop (length first) was) ≡ first = take_at first _ (length first) refl in
+      let sized = sized_parts s.longest first (and_parts _ _ (ap (all_sized s.longest) (sym list) ∙ lanes_sized l side)).0 in
+      record {
+        longest = longest_same s side rest;
+        only = λ v x. both (λ u. In x (list_at (with_list s side rest) u) → In x (list_at s u)) side v
+            (λ i. subst (In x) (sym list) (inr (subst (In x) here i))) (subst (In x) there);
+        gives = record {
+          fits = omega (arith, sized, wide);
+          could = subst (In (take (length first) (first ++ drop (length first) was))) (sym list) (inl (sym front));
+          behind = drop_at first _ (length first) refl;
+        };
+        removes = λ _ _ _. record {
+          here = record { front = []; back = rest; was = list ∙ ap (λ x. x ∷ rest) (sym front); left = here };
+          depth = refl;
+          there = there;
+        };
+      }
 
-  some : 0 < length (list_at s side)
-  some = ltb-true 0 (length (list_at s side)) (and_parts _ _ (sym h)).1
+  -- none is given, since the buffer is short or nothing is there
+  none_given : serves s side was ≡ false → ReceivedAs (holding depth s) (holding depth s) side was was None
+  none_given short = record {
+    longest = refl;
+    only = λ v x i. i;
+    gives = refl;
+    removes = λ wide some _.
+        absurd (both_ways (serves s side was) short (and_from _ _ (le-leb s.longest (length was) wide) (lt-ltb 0 (length (list_at s side)) some)));
+  }
 
-  pub never_short : length was < s.longest → ⊥
-  never_short i = omega (arith, i, wide)
+  pub received_as :
+      (r : Option ℕ) (is : List ℕ) (after : Store) → (r, is, after) ≡ received s side was →
+      ReceivedAs (holding depth s) (holding depth after) side was is r
+  received_as r is after e = ⊎_elim served none (cases_Bool (serves s side was)) where
+    none : serves s side was ≡ false → ReceivedAs (holding depth s) (holding depth after) side was is r
+    none f =
+        let p : (r, is, after) ≡ (None, was, s) = e ∙ cond-false (serves s side was) _ (None, was, s) f in
+        let p0 : r ≡ None = ap (λ x. x.0) p in
+        let p1 : is ≡ was = ap (λ x. x.1) p in
+        let p2 : after ≡ s = ap (λ x. x.2) p in
+        rw (p0, p1, p2) (none_given f)
 
-  pub never_idle : list_at s side ≡ [] → ⊥
-  never_idle f = omega (arith, some, ap length f)
+    served : serves s side was ≡ true → ReceivedAs (holding depth s) (holding depth after) side was is r
+    served t = by (list_at s side) refl where
+      q : (nat_le s.longest (length was) ≡ true) × (nat_lt 0 (length (list_at s side)) ≡ true)
+      q = and_parts _ _ t
 
-  module _ (k : ℕ) (is : List ℕ) (after : Store) (e : (Some k, is, after) ≡ with_left s side (first_of (list_at s side) was)) where
-    split : Split s side was k is after
-    split = by (list_at s side) refl where
-      by : (ds : List (List ℕ)) → list_at s side ≡ ds → Split s side was k is after
-      by [] f = absurd (omega (arith, some, ap length f))
+      by : (ds : List (List ℕ)) → list_at s side ≡ ds → ReceivedAs (holding depth s) (holding depth after) side was is r
+      by [] f = absurd (omega (arith, ltb-true 0 (length (list_at s side)) q.1, ap length f))
       by (d ∷ ds) f =
-          let g : (Some k, is, after) ≡ with_left s side (first_of (d ∷ ds) was) = e ∙ ap (λ xs. with_left s side (first_of xs was)) f in
-          let p : Some k ≡ Some (length d) = ap (λ x. x.0) g in
-          record {
-            first = d;
-            rest = ds;
-            list = f;
-            len = cc;
-            buffer = ap (λ x. x.1) g;
-            store = ap (λ x. x.2) g;
-          }
-
-    front : take k is ≡ split.first
-    front = ap (take k) split.buffer ∙ take_at split.first _ k (sym split.len)
-
-    behind : drop k is ≡ drop k was
-    behind =
-        ap (drop k) split.buffer ∙ drop_at split.first _ k (sym split.len) ∙ ap (λ i. drop i was) (sym split.len)
-
-    here : list_at after side ≡ split.rest
-    here = ap (λ x. list_at x side) split.store ∙ list_here s side split.rest
-
-    there : list_at after (other side) ≡ list_at s (other side)
-    there = ap (λ x. list_at x (other side)) split.store ∙ list_there s side split.rest
-
-    first_long : length split.first ≤ s.longest
-    first_long =
-        (sized_parts s.longest split.first
-        (and_parts _ _ (ap (all_sized s.longest) (sym split.list) ∙ lanes_sized l side)).0).1
-
-    pub given : ReceivedAs (holding depth s) (holding depth after) side was is (Some k)
-    given = record {
-      longest = ap (λ x. x.longest) split.store ∙ longest_same s side split.rest;
-      only = λ v x. both (λ u. In x (list_at after u) → In x (list_at s u)) side v
-          (λ i. subst (In x) (sym split.list) (inr (subst (In x) here i))) (subst (In x) there);
-      gives = record {
-        fits = omega (arith, split.len, first_long, wide);
-        could = subst (In (take k is)) (sym split.list) (inl (sym front));
-        behind = behind;
-      };
-      removes = λ _ _ _. record {
-        here = record { front = []; back = split.rest; was = split.list ∙ ap (λ x. x ∷ split.rest) (sym front); left = here };
-        depth = refl;
-        there = there;
-      };
-    }
-
-    pub given_exactly : ◌≡◌ {A = Option ℕ × List ℕ × Store} (Some k, is, after) (received s side was)
-    given_exactly = e ∙ sym (cond-true (serves s side was) _ (None, was, s) (sym h))
+          let p : (r, is, after) ≡ with_left s side (first_of (d ∷ ds) was) =
+          e ∙ cond-true (serves s side was) _ (None, was, s) t ∙ ap (λ xs. with_left s side (first_of xs was)) f
+          in
+          let p0 : r ≡ Some (length d) = ap (λ x. x.0) p in
+          let p1 : is ≡ d ++ drop (length d) was = ap (λ x. x.1) p in
+          let p2 : after ≡ with_list s side ds = ap (λ x. x.2) p in
+          rw (p0, p1, p2) (given d ds f (leb-true s.longest (length was) q.0))

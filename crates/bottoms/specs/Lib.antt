@@ -1,9 +1,9 @@
+pub mod Both
 pub mod Datagrams
-pub mod Lanes
 pub mod Refusals
 pub mod Stores
-pub mod Bottoms
 pub mod Fates
+pub mod Bottoms
 pub mod Traces
 pub mod Holding
-pub mod Places
+pub mod Sizes

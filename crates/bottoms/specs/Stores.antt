@@ -2,8 +2,7 @@
 use Rattle.std.specs.Prelude.{ℕ, Bool, cond, ◌&&◌, List, [], ◌∷◌, ◌++◌, None, Ok, Err, Option, Result, nat_le}
 use Rattle.nonce.specs.declared.side.Side.{Side}
 use Rattle.nonce.specs.declared.side.Side.TheVariants.{A, B}
-use Rattle.bottoms.specs.Datagrams.{admitted, served, first_of}
-use Rattle.bottoms.specs.Lanes.{lane_list}
+use Rattle.bottoms.specs.Datagrams.{lane_list, admitted, served, first_of}
 use Rattle.bottoms.specs.declared.lanes.Lanes.{Lanes}
 use Rattle.bottoms.specs.declared.refusal.MakeRefusal.{MakeRefusal}
 use Rattle.bottoms.specs.declared.refusal.MakeRefusal.TheVariants.{Longest}
@@ -54,4 +53,4 @@ abbrev pub fresh : ℕ → Result Store MakeRefusal
 fresh longest = cond (in_range longest) (Ok (empty longest)) (Err Longest)
 
 abbrev pub store_of : Lanes → Store
-store_of l = record { longest = l.a.longest; a = lane_list l.a; b = lane_list l.b }
+store_of l = record { longest = l.longest; a = lane_list l.lists.a; b = lane_list l.lists.b }

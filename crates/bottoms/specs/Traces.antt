@@ -4,32 +4,27 @@ use Rattle.nonce.specs.declared.side.Side.{Side}
 use Rattle.channel.specs.Meaning.{Meaning}
 use Rattle.channel.specs.declared.sent.Sent.{Sent}
 use Rattle.channel.specs.declared.sent.Sent.TheVariants.{Taken, NotTaken}
-use Rattle.bottoms.specs.Stores.{Store, admits, added_last, added_first, received, empty, in_range, store_of}
-use Rattle.bottoms.specs.Bottoms.{holding}
-use Rattle.bottoms.specs.Fates.{next_fate, fates_left}
-use Rattle.bottoms.specs.declared.fate.Fate.{Fate}
-use Rattle.bottoms.specs.declared.fate.Fate.TheVariants.{Pass, Lose, Double, Jump}
+use Rattle.bottoms.specs.Stores.{Store, admits, received, empty, in_range, store_of}
+use Rattle.bottoms.specs.Bottoms.{means}
+use Rattle.bottoms.specs.Fates.{next_fate, fated}
+use Rattle.bottoms.specs.declared.bottom.Bottom.{Bottom}
 use Rattle.bottoms.specs.declared.refusal.MakeRefusal.{MakeRefusal}
 use Rattle.bottoms.specs.declared.refusal.MakeRefusal.TheVariants.{NoMemory, Longest}
-use Rattle.bottoms.specs.declared.trace.Trace.{Trace}
+use Rattle.bottoms.specs.declared.trace.Fates.{Fates}
 
 -- what is there, and the letters of the fates that are left
 pub record Traced : Type 0 where
   pub store : Store
   pub fates : List ℕ
 
+abbrev pub Trace : Type 0
+Trace = Bottom Fates
+
 abbrev pub traced : Trace → Traced
-traced t = record { store = store_of t.lanes; fates = fates_left t.fates }
+traced t = record { store = store_of t.lanes; fates = t.rule }
 
 abbrev pub trace_means : Trace → Meaning
-trace_means t = holding 0 (store_of t.lanes)
-
--- what a datagram that is taken leaves, by its fate
-abbrev pub fated : Fate → Store → Side → List ℕ → Store
-fated Pass s to d = added_last s to d
-fated Lose s to d = s
-fated Double s to d = cond (admits (added_last s to d) to d) (added_last (added_last s to d) to d) (added_last s to d)
-fated Jump s to d = added_first s to d
+trace_means = means 0
 
 -- a send uses a fate if it is taken
 abbrev pub trace_sent : Traced → Side → List ℕ → Sent × Traced

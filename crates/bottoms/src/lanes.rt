@@ -1,14 +1,20 @@
-//! A lane for each end.
-ghost use Rattle.std.specs.Prelude.{◌≡◌};
+//! The datagrams for each end.
+ghost use Rattle.std.specs.Prelude.{◌≡◌, ◌≤◌, true};
+ghost use Rattle.nonce.specs.declared.side.Side.{Side};
+ghost use Rattle.bottoms.specs.Both.{at};
+ghost use Rattle.bottoms.specs.Datagrams.{all_sized, lane_list};
 
-use crate::lane::Lane;
+use crate::both::Both;
+use crate::datagram::Datagram;
+use arrayvec::ArrayVec;
 
 pub(crate) mod methods;
 
-/// Both lanes hold datagrams of the same longest length.
+/// At most 32 datagrams of 1 to `longest` octets for each end, in the order in which they come.
 #[derive(Drop)]
 pub(crate) struct Lanes {
-    a: Lane,
-    b: Lane,
-    ghost even: { b.longest ≡ a.longest },
+    longest: usize,
+    lists: Both<ArrayVec<Datagram, 32>>,
+    ghost most: { longest ≤ 256 },
+    ghost sizes: { (side : Side) → all_sized longest (lane_list (at lists side)) ≡ true },
 }

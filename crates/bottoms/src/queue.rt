@@ -1,64 +1,31 @@
 //! A queue for each end: the oldest datagram comes first.
-ghost use Rattle.std.specs.Prelude.{◌≡◌, ◌<◌, [], length, None};
-ghost use Rattle.std.specs.Result.{result_map_both};
-ghost use Rattle.channel.specs.Meaning.{Within};
-ghost use Rattle.channel.specs.Effects.{SentAs, ReceivedAs};
-ghost use Rattle.bottoms.specs.Stores.{received, fresh};
-ghost use Rattle.bottoms.specs.Bottoms.{queue_store, queue_means, queue_sent};
-ghost use Rattle.bottoms.specs.Holding.{holding_sound};
+ghost use Rattle.std.specs.Prelude.{refl};
+ghost use Rattle.std.proofs.Math.Nat.{le_refl};
+ghost use Rattle.std.proofs.Common.{inl};
+ghost use Rattle.bottoms.specs.declared.rule.Fate.TheVariants.{Pass};
 
-use crate::lanes::Lanes;
-use crate::refusal::MakeRefusal;
-use channel::channel::Channel;
-use channel::sent::Sent;
-use nonce::side::Side;
+use crate::bottom::Bottom;
+use crate::rule::{Fate, Rule};
+
+/// What is sent is put behind the others.
+#[derive(Default, Drop)]
+pub struct OldestFirst;
+
+impl Rule for OldestFirst {
+    ghost depth = { 32 };
+
+    ghost fate = { λ _. Pass };
+
+    ghost rest = { λ rule. rule };
+
+    fn next(&mut self) -> Fate {
+        Fate::Pass
+    }
+
+    ghost most = { le_refl 32 };
+
+    ghost once = { λ _ _. inl refl };
+}
 
 /// At most 32 datagrams wait at each end.
-#[derive(Drop)]
-pub struct Queue {
-    lanes: Lanes,
-}
-
-impl Queue {
-    /// A queue in which nothing waits, for datagrams of at most `longest` octets.
-    pub fn new(longest: usize) -> Result<Queue, MakeRefusal>
-        ensures { result_map_both queue_store (λ e. e) result ≡ fresh longest }
-    {
-        let lanes = Lanes::new(longest)?;
-        Ok(Queue { lanes })
-    }
-}
-
-impl Channel for Queue {
-    ghost meaning = { queue_means };
-
-    ghost sound = { λ q. holding_sound 32 q.lanes };
-
-    fn longest(&self) -> usize {
-        self.lanes.longest()
-    }
-
-    fn send(&mut self, to: Side, datagram: &[u8]) -> Sent
-        ensures effect { SentAs (queue_means self.old) (queue_means self.new) to datagram.now result }
-        ensures unfit { (Within (queue_means self.old) datagram.now → ⊥) → (result ≡ Sent.NotTaken) × (self.new ≡ self.old) }
-        ensures exactly { (result, queue_store self.new) ≡ queue_sent (queue_store self.old) to datagram.now }
-    {
-        if !self.lanes.admits(to, datagram) {
-            return Sent::NotTaken;
-        }
-        self.lanes.add_last(to, datagram);
-        Sent::Taken
-    }
-
-    fn receive(&mut self, at: Side, buffer: &mut [u8]) -> Option<usize>
-        ensures effect { ReceivedAs (queue_means self.old) (queue_means self.new) at buffer.old buffer.new result }
-        ensures short { length buffer.old < (queue_means self.old).longest → (result ≡ None) × (self.new ≡ self.old) }
-        ensures idle { 0 < (queue_means self.old).depth → (queue_means self.old).waiting at ≡ [] → (result ≡ None) × (self.new ≡ self.old) }
-        ensures exactly { (result, buffer.new, queue_store self.new) ≡ received (queue_store self.old) at buffer.old }
-    {
-        if !self.lanes.serves(at, buffer) {
-            return None;
-        }
-        Some(self.lanes.take_first(at, buffer))
-    }
-}
+pub type Queue = Bottom<OldestFirst>;

@@ -5,6 +5,8 @@ ghost use Rattle.bottoms.specs.Refusals.{make_number, make_of, make_told};
 
 use numbered::Numbered;
 
+use std::alloc::AllocError;
+
 /// Why no channel is made; as a number, that of the rule.
 #[derive(Clone, Copy, PartialEq, Eq, Debug)]
 pub enum MakeRefusal {
@@ -22,4 +24,14 @@ impl Numbered for MakeRefusal {
     }
 
     ghost apart = { apart_by make_number make_of make_told };
+}
+
+impl From<AllocError> for MakeRefusal {
+    ghost use Rattle.bottoms.specs.declared.refusal.MakeRefusal.TheVariants.{NoMemory};
+
+    ghost from_gives = { λ _ refusal. refusal ≡ NoMemory };
+
+    fn from(_error: AllocError) -> MakeRefusal {
+        MakeRefusal::NoMemory
+    }
 }

@@ -1,4 +1,8 @@
 //! Short runs over each channel.
+ghost use Rattle.std.specs.Prelude.{◌≡◌};
+ghost use Rattle.bottoms.specs.Bottoms.{queue_store, queue_sent, stack_store, stack_sent};
+ghost use Rattle.bottoms.specs.Traces.{traced, trace_sent, trace_received};
+
 use crate::queue::Queue;
 use crate::refusal::MakeRefusal;
 use crate::stack::Stack;
@@ -10,18 +14,40 @@ use nonce::side::Side;
 use numbered::Numbered;
 use std::test::Fail;
 
+/// What a caller of a queue knows of a send: the datagram comes last.
+fn queue_send(queue: &mut Queue, to: Side, datagram: &[u8]) -> Sent
+    ensures { (result, queue_store queue.new) ≡ queue_sent (queue_store queue.old) to datagram.now }
+{
+    queue.send(to, datagram)
+}
+
+/// The same of a stack: it comes first.
+fn stack_send(stack: &mut Stack, to: Side, datagram: &[u8]) -> Sent
+    ensures { (result, stack_store stack.new) ≡ stack_sent (stack_store stack.old) to datagram.now }
+{
+    stack.send(to, datagram)
+}
+
+/// The same of a trace: it has the next fate, which is used.
+fn trace_send(trace: &mut Trace, to: Side, datagram: &[u8]) -> Sent
+    ensures { (result, traced trace.new) ≡ trace_sent (traced trace.old) to datagram.now }
+{
+    trace.send(to, datagram)
+}
+
+/// What a caller of a trace knows of a receive: it uses no fate.
+fn trace_receive(trace: &mut Trace, at: Side, buffer: &mut [u8]) -> Option<usize>
+    ensures { (result, buffer.new, traced trace.new) ≡ trace_received (traced trace.old) at buffer.old }
+{
+    trace.receive(at, buffer)
+}
+
 /// The datagram that comes to an end: its length and its last octet.
 fn next<C: Channel>(channel: &mut C, at: Side) -> Option<(usize, u8)> {
     let mut room = [0; 256];
-    match channel.receive(at, &mut room) {
-        Some(len) => {
-            if len == 0 || len > 256 {
-                return None;
-            }
-            Some((len, room[len - 1]))
-        }
-        None => None,
-    }
+    let len = channel.receive(at, &mut room)?;
+    let last = room.get(..len)?.last()?;
+    Some((len, *last))
 }
 
 /// Whether a datagram is taken.
@@ -34,6 +60,19 @@ fn send_all<C: Channel>(channel: &mut C, octets: &[u8]) {
     for x in octets {
         channel.send(Side::B, &[*x]);
     }
+}
+
+/// Each bottom, as the callers above know it.
+#[test]
+fn known(rt: HostRuntime) -> Result<(), Fail> {
+    let mut queue = Queue::new(32)?;
+    assert_eq!(rt; queue_send(&mut queue, Side::A, b"x"), Sent::Taken);
+    let mut stack = Stack::new(32)?;
+    assert_eq!(rt; stack_send(&mut stack, Side::A, b""), Sent::NotTaken);
+    let mut trace = Trace::new(rt.alloc(), 32, b"l")?;
+    assert_eq!(rt; trace_send(&mut trace, Side::A, b"x"), Sent::Taken);
+    assert_eq!(rt; trace_receive(&mut trace, Side::A, &mut [0; 32]), None);
+    Ok(())
 }
 
 #[test]

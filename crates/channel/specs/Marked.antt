@@ -1,12 +1,12 @@
 -- Marked datagrams, and lists of them.
-use Rattle.std.specs.Prelude.{◌≡◌, ℕ, ◌-◌, ◌≤◌, Bool, true, ◌&&◌, List, [], ◌∷◌, ◌++◌, map, length, take, drop, Some, ◌==◌, refl}
+use Rattle.std.specs.Prelude.{◌≡◌, ℕ, ◌-◌, ◌≤◌, Bool, true, ◌&&◌, List, [], ◌∷◌, ◌++◌, map, length, take, drop, ◌==◌, refl}
 use Rattle.std.proofs.Common.{sym, ap, subst, ◌∙◌, inl, inr, arith}
-use Rattle.std.proofs.lemmas.List.{length-drop, map-append, take_at, drop_at, take_rest}
+use Rattle.std.proofs.lemmas.List.{length-drop, map-append, take_at, drop_at}
 use Rattle.std.proofs.lemmas.Bool.{false≢true, eqb-true, ltb-true, lt-ltb, and_parts, and_from}
 use Rattle.nonce.specs.declared.side.Side.{Side}
 use Rattle.nonce.specs.declared.side.Side.TheVariants.{A, B}
 use Rattle.channel.specs.Meaning.{In, Without, other}
-use Rattle.channel.specs.Marks.{mark, is_marked, all_marked, passed}
+use Rattle.channel.specs.Marks.{mark, is_marked, all_marked}
 
 -- ---- one datagram
 
@@ -38,14 +38,6 @@ module _ (d was : List ℕ) where
 
   pub rest_behind : drop (length d - 4) (drop 4 d ++ drop (length d - 4) was) ≡ drop (length d - 4) was
   rest_behind = drop_at (drop 4 d) (drop (length d - 4) was) (length d - 4) (length-drop 4 d)
-
-  -- the octets behind the mark, copied there
-  pub passed_on :
-      (copied : List ℕ) → is_marked d ≡ true → copied ≡ take (length d - 4) (drop 4 d) →
-      (Some (length d - 4), copied ++ drop (length d - 4 - 0) was) ≡ passed d was
-  passed_on copied t e =
-      let z : length d - 4 - 0 ≡ length d - 4 = omega arith in
-      rw (t, z, e ∙ take_rest d 4)
 
 -- ---- lists
 

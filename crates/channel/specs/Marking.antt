@@ -76,9 +76,6 @@ module _ (m n : Meaning) (side : Side) (d : List ℕ) where
 
 -- ---- receiving
 
-pub some_none : {T : Type 0} (k : ℕ) → Some k ≡ None → T
-some_none k e = let z : ◌≡◌ {A = ℕ} 0 1 = cc in absurd (omega arith)
-
 module _ (m n : Meaning) (side : Side) (was is : List ℕ) (answer : Option ℕ) (sound : Sound m) where
   module _ (room : List ℕ) (came : Option ℕ) (s : ReceivedAs m n side (replicate 256 0) room came) where
     -- what the receive below removed, where 1 to depth wait above

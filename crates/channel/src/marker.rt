@@ -1,5 +1,5 @@
 //! A layer that marks each datagram: four zero octets stand before the message, as before an IKE message in RFC 3948.
-ghost use Rattle.std.specs.Prelude.{◌≡◌, ◌+◌, ◌-◌, ◌<◌, ◌≤◌, [], length, take, None};
+ghost use Rattle.std.specs.Prelude.{◌≡◌, ◌-◌, ◌<◌, ◌≤◌, ◌↔◌, true, [], length, drop, None, IsSome, IfSome};
 ghost use Rattle.channel.specs.Meaning.{Within};
 ghost use Rattle.channel.specs.Effects.{SentAs, ReceivedAs};
 ghost use Rattle.channel.specs.Marks.{mark, is_marked, passed, marked, Unmarks};
@@ -7,6 +7,7 @@ ghost use Rattle.channel.specs.Marking.{marked_sound};
 
 use crate::channel::Channel;
 use crate::sent::Sent;
+use arrayvec::ArrayVec;
 use nonce::side::Side;
 
 /// A marker over the channel below.
@@ -32,21 +33,26 @@ impl<C: Channel> Marker<C> {
     }
 }
 
-/// The mark and a message behind it, at the front of a row.
-fn with_mark(message: &[u8]) -> [u8; 256]
+/// The mark and a message behind it.
+fn with_mark(message: &[u8]) -> ArrayVec<u8, 256>
     requires { length message.now ≤ 252 }
-    ensures { take (4 + length message.now) result ≡ mark message.now }
+    ensures { result.items ≡ mark message.now }
 {
-    let mut room = [0; 256];
-    room[4..4 + message.len()].copy_from_slice(message);
-    room
+    let mut marked = ArrayVec::new();
+    let _fits = marked.try_extend_from_slice(&[0; 4]);
+    let _fits = marked.try_extend_from_slice(message);
+    marked
 }
 
-/// Whether a datagram has the mark and something behind it.
-fn is_marked(datagram: &[u8]) -> bool
-    ensures { result ≡ is_marked datagram.now }
+/// What is behind the mark, where a datagram has the mark and something behind it.
+fn behind_mark(datagram: &[u8]) -> Option<&[u8]>
+    ensures marked { IsSome result ↔ (is_marked datagram.now ≡ true) }
+    ensures value { IfSome result (λ message. message.now ≡ drop 4 datagram.now) }
 {
-    matches!(datagram, [0, 0, 0, 0, _, ..])
+    match datagram {
+        [0, 0, 0, 0, message @ ..] if !message.is_empty() => Some(message),
+        _ => None,
+    }
 }
 
 /// Writes what is behind the mark to the front of the buffer; nothing, where a datagram is not marked.
@@ -54,12 +60,9 @@ fn pass_on(datagram: &[u8], buffer: &mut [u8]) -> Option<usize>
     requires { length datagram.now - 4 ≤ length buffer.old }
     ensures { (result, buffer.new) ≡ passed datagram.now buffer.old }
 {
-    if !is_marked(datagram) {
-        return None;
-    }
-    let len = datagram.len() - 4;
-    buffer[0..len].copy_from_slice(&datagram[4..datagram.len()]);
-    Some(len)
+    let message = behind_mark(datagram)?;
+    buffer[..message.len()].copy_from_slice(message);
+    Some(message.len())
 }
 
 impl<C: Channel> Channel for Marker<C> {
@@ -80,8 +83,7 @@ impl<C: Channel> Channel for Marker<C> {
         if len == 0 || len > self.longest() {
             return Sent::NotTaken;
         }
-        let room = with_mark(datagram);
-        self.below.send(to, &room[0..4 + len])
+        self.below.send(to, with_mark(datagram).as_slice())
     }
 
     fn receive(&mut self, at: Side, buffer: &mut [u8]) -> Option<usize>
@@ -93,10 +95,9 @@ impl<C: Channel> Channel for Marker<C> {
         if buffer.len() < self.longest() {
             return None;
         }
+        // The channel below writes to a slice of full length, so the room has no length of its own.
         let mut room = [0; 256];
-        match self.below.receive(at, &mut room) {
-            Some(len) => pass_on(&room[0..len], buffer),
-            None => None,
-        }
+        let len = self.below.receive(at, &mut room)?;
+        pass_on(&room[..len], buffer)
     }
 }

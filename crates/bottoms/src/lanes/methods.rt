@@ -1,12 +1,14 @@
-//! The lane of an end is asked.
-ghost use Rattle.std.specs.Prelude.{◌≡◌, true, Some};
+//! How datagrams come into the lanes and leave them.
+ghost use Rattle.std.specs.Prelude.{◌≡◌, true, IfNone};
 ghost use Rattle.std.specs.Result.{result_map_both};
-ghost use Rattle.bottoms.specs.Datagrams.{first_of};
-ghost use Rattle.bottoms.specs.Stores.{list_at, admits, added_last, added_first, serves, with_left, fresh, store_of};
+ghost use Rattle.bottoms.specs.Stores.{admits, added_last, added_first, received, fresh, store_of};
+ghost use Rattle.bottoms.specs.Fates.{fated};
 
-use crate::lane::Lane;
+use crate::both::Both;
+use crate::datagram::datagram;
 use crate::lanes::Lanes;
 use crate::refusal::MakeRefusal;
+use crate::rule::Fate;
 use nonce::side::Side;
 
 impl Lanes {
@@ -14,12 +16,12 @@ impl Lanes {
     pub(crate) fn new(longest: usize) -> Result<Lanes, MakeRefusal>
         ensures { result_map_both store_of (λ e. e) result ≡ fresh longest }
     {
-        if longest < 32 || longest > 256 {
+        if !(32..=256).contains(&longest) {
             return Err(MakeRefusal::Longest);
         }
         Ok(Lanes {
-            a: Lane::new(longest),
-            b: Lane::new(longest),
+            longest,
+            lists: Both::default(),
         })
     }
 
@@ -27,59 +29,44 @@ impl Lanes {
     pub(crate) fn longest(&self) -> usize
         ensures { result ≡ (store_of self.now).longest }
     {
-        self.a.longest()
+        self.longest
     }
 
     /// Whether these octets have the length of a datagram, and there is a place for them.
     pub(crate) fn admits(&self, to: Side, octets: &[u8]) -> bool
         ensures { result ≡ admits (store_of self.now) to octets.now }
     {
-        match to {
-            Side::A => self.a.admits(octets),
-            Side::B => self.b.admits(octets),
-        }
+        (1..=self.longest).contains(&octets.len()) && !self.lists.at(to).is_full()
     }
 
-    /// Adds a datagram behind the others.
-    pub(crate) fn add_last(&mut self, to: Side, octets: &[u8])
+    /// Adds a datagram as its fate has it.
+    pub(crate) fn add(&mut self, fate: Fate, to: Side, octets: &[u8])
         requires { admits (store_of self.old) to octets.now ≡ true }
-        ensures { store_of self.new ≡ added_last (store_of self.old) to octets.now }
+        ensures { store_of self.new ≡ fated fate (store_of self.old) to octets.now }
     {
-        match to {
-            Side::A => self.a.add_last(octets),
-            Side::B => self.b.add_last(octets),
+        let lane = self.lists.at_mut(to);
+        match fate {
+            Fate::Pass => lane.push(datagram(octets)),
+            Fate::Lose => {}
+            Fate::Double => {
+                lane.push(datagram(octets));
+                let _fits = lane.try_push(datagram(octets));
+            }
+            Fate::Jump => lane.insert(0, datagram(octets)),
         }
     }
 
-    /// Adds a datagram before the others.
-    pub(crate) fn add_first(&mut self, to: Side, octets: &[u8])
-        requires { admits (store_of self.old) to octets.now ≡ true }
-        ensures { store_of self.new ≡ added_first (store_of self.old) to octets.now }
+    /// Takes the first datagram for an end, to the front of the buffer; none, where nothing is there or the buffer has not
+    /// room for any.
+    pub(crate) fn receive(&mut self, at: Side, buffer: &mut [u8]) -> Option<usize>
+        ensures exactly { (result, buffer.new, store_of self.new) ≡ received (store_of self.old) at buffer.old }
+        ensures kept { IfNone result (self.new ≡ self.old) }
     {
-        match to {
-            Side::A => self.a.add_first(octets),
-            Side::B => self.b.add_first(octets),
+        if buffer.len() < self.longest {
+            return None;
         }
-    }
-
-    /// Whether there is a datagram for an end, and the buffer has room for any.
-    pub(crate) fn serves(&self, at: Side, buffer: &[u8]) -> bool
-        ensures { result ≡ serves (store_of self.now) at buffer.now }
-    {
-        match at {
-            Side::A => self.a.serves(buffer),
-            Side::B => self.b.serves(buffer),
-        }
-    }
-
-    /// Takes the first datagram for an end, to the front of the buffer.
-    pub(crate) fn take_first(&mut self, at: Side, buffer: &mut [u8]) -> usize
-        requires { serves (store_of self.old) at buffer.old ≡ true }
-        ensures { (Some result, buffer.new, store_of self.new) ≡ with_left (store_of self.old) at (first_of (list_at (store_of self.old) at) buffer.old) }
-    {
-        match at {
-            Side::A => self.a.take_first(buffer),
-            Side::B => self.b.take_first(buffer),
-        }
+        let first = self.lists.at_mut(at).pop_at(0)?;
+        buffer[..first.len()].copy_from_slice(&first);
+        Some(first.len())
     }
 }

@@ -1,0 +1,71 @@
+//! A channel that holds datagrams itself, and a rule that says where each is put.
+ghost use Rattle.std.specs.Prelude.{◌≡◌, ◌<◌, cond, [], length, None, IfOk};
+ghost use Rattle.std.specs.Result.{result_map_both};
+ghost use Rattle.channel.specs.Meaning.{Within};
+ghost use Rattle.channel.specs.Effects.{SentAs, ReceivedAs};
+ghost use Rattle.bottoms.specs.Stores.{admits, received, fresh, store_of};
+ghost use Rattle.bottoms.specs.Bottoms.{means};
+ghost use Rattle.bottoms.specs.Fates.{sent_by};
+ghost use Rattle.bottoms.specs.Holding.{holding_sound};
+
+use crate::lanes::Lanes;
+use crate::refusal::MakeRefusal;
+use crate::rule::Rule;
+use channel::channel::Channel;
+use channel::sent::Sent;
+use nonce::side::Side;
+
+/// At most 32 datagrams are there for each end. What is taken is put where the rule says.
+#[derive(Drop)]
+pub struct Bottom<R> {
+    pub(crate) lanes: Lanes,
+    pub(crate) rule: R,
+}
+
+impl<R: Rule + Default> Bottom<R> {
+    /// A bottom in which nothing waits, for datagrams of at most `longest` octets.
+    pub fn new(longest: usize) -> Result<Bottom<R>, MakeRefusal>
+        ensures store { result_map_both (λ b. store_of b.lanes) (λ e. e) result ≡ fresh longest }
+        ensures rule { IfOk result (λ b. R.Default.is_default b.rule) }
+    {
+        let lanes = Lanes::new(longest)?;
+        Ok(Bottom {
+            lanes,
+            rule: R::default(),
+        })
+    }
+}
+
+impl<R: Rule> Channel for Bottom<R> {
+    ghost meaning = { means R.Rule.depth };
+
+    ghost sound = { λ b. holding_sound R.Rule.depth b.lanes };
+
+    fn longest(&self) -> usize {
+        self.lanes.longest()
+    }
+
+    fn send(&mut self, to: Side, datagram: &[u8]) -> Sent
+        ensures effect { SentAs (means R.Rule.depth self.old) (means R.Rule.depth self.new) to datagram.now result }
+        ensures unfit { (Within (means R.Rule.depth self.old) datagram.now → ⊥) → (result ≡ Sent.NotTaken) × (self.new ≡ self.old) }
+        ensures exactly { (result, store_of self.new.lanes) ≡ sent_by (R.Rule.fate self.old.rule) (store_of self.old.lanes) to datagram.now }
+        ensures rule { self.new.rule ≡ cond (admits (store_of self.old.lanes) to datagram.now) (R.Rule.rest self.old.rule) self.old.rule }
+    {
+        if !self.lanes.admits(to, datagram) {
+            return Sent::NotTaken;
+        }
+        let fate = self.rule.next();
+        self.lanes.add(fate, to, datagram);
+        Sent::Taken
+    }
+
+    fn receive(&mut self, at: Side, buffer: &mut [u8]) -> Option<usize>
+        ensures effect { ReceivedAs (means R.Rule.depth self.old) (means R.Rule.depth self.new) at buffer.old buffer.new result }
+        ensures short { length buffer.old < (means R.Rule.depth self.old).longest → (result ≡ None) × (self.new ≡ self.old) }
+        ensures idle { 0 < (means R.Rule.depth self.old).depth → (means R.Rule.depth self.old).waiting at ≡ [] → (result ≡ None) × (self.new ≡ self.old) }
+        ensures exactly { (result, buffer.new, store_of self.new.lanes) ≡ received (store_of self.old.lanes) at buffer.old }
+        ensures rule { self.new.rule ≡ self.old.rule }
+    {
+        self.lanes.receive(at, buffer)
+    }
+}
