@@ -4,7 +4,6 @@ ghost use Rattle.numbered.specs.Apart.{apart_by};
 ghost use Rattle.bottoms.specs.Refusals.{make_number, make_of, make_told};
 
 use numbered::Numbered;
-
 use std::alloc::AllocError;
 
 /// Why no channel is made; as a number, that of the rule.
