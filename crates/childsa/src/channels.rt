@@ -4,9 +4,9 @@ ghost use Rattle.childsa.specs.Piles.{BottomMade};
 ghost use Rattle.childsa.specs.Told.{sent_text, ReceivedText};
 
 use crate::bottom::Bottom;
-use crate::desk::Desk;
-use crate::hex::to_hex;
-use crate::pile::Pile;
+use crate::commands::Line;
+use crate::digits::to_hex;
+use crate::pile;
 use crate::words::Words;
 use crate::wrong::{Stop, Wrong};
 use bottoms::queue::Queue;
@@ -17,31 +17,40 @@ use channel::channel::Channel;
 use channel::sent::Sent;
 use nonce::side::Side;
 use std::alloc::{AllocError, Global};
+use std::fmt;
 
-/// The kind of a bottom.
+/// The bottom that is asked for; the fates of a trace are as they are written.
 #[derive(Clone, Copy)]
-enum Kind {
-    Queue,
-    Stack,
-    Trace,
+enum Wanted<'a> {
+    Queue { longest: u32 },
+    Stack { longest: u32 },
+    Trace { longest: u32, fates: &'a str },
+}
+
+impl fmt::Display for Wanted<'_> {
+    fn fmt<W: fmt::Write>(&self, f: &mut fmt::Formatter<W>) -> fmt::Result {
+        match self {
+            Wanted::Queue { longest } => write!(f, "queue {longest}"),
+            Wanted::Stack { longest } => write!(f, "stack {longest}"),
+            Wanted::Trace { longest, fates } => write!(f, "trace {longest} {fates}"),
+        }
+    }
 }
 
 /// `channel BOTTOM MARKERS`: makes the channel.
-pub(crate) fn make(desk: &mut Desk, heap: Global, words: &mut Words<'_>) -> Result<String, Stop> {
-    let kind = read_kind(words)?;
-    let longest = words.number("the most octets of a datagram")?;
-    let fates = read_fates(kind, words)?;
-    let markers = read_markers(words)?;
-    match new_bottom(heap, kind, longest as usize, letters_of(fates)) {
+pub(crate) fn make(line: &mut Line<'_>) -> Result<String, Stop> {
+    let heap = line.words.heap;
+    let wanted = read_wanted(&mut line.words)?;
+    let markers = read_markers(&mut line.words)?;
+    match new_bottom(heap, wanted) {
         Ok(bottom) => {
-            let pile = Pile::over(bottom, markers);
+            let pile = pile::over(bottom, markers);
             let most = pile.longest();
-            desk.channel = Some(pile);
-            let bottom = bottom_text(heap, kind, longest, fates)?;
+            line.desk.channel = Some(pile);
             let layers = markers_text(markers);
-            Ok(format!(in heap; "channel {bottom}{layers} longest {most}")?)
+            Ok(format!(in heap; "channel {wanted}{layers} longest {most}")?)
         }
-        Err(MakeRefusal::NoMemory) => Err(Stop::Memory),
+        Err(MakeRefusal::NoMemory) => Err(AllocError.into()),
         Err(refusal) => {
             let number = refusal.number();
             Ok(format!(in heap; "refused {number}")?)
@@ -50,33 +59,23 @@ pub(crate) fn make(desk: &mut Desk, heap: Global, words: &mut Words<'_>) -> Resu
 }
 
 /// `send END HEX`: sends a datagram to an end.
-pub(crate) fn send(desk: &mut Desk, heap: Global, words: &mut Words<'_>) -> Result<String, Stop> {
-    let to = words.side()?;
-    let datagram = words.datagram()?;
-    words.end()?;
-    match &mut desk.channel {
-        Some(channel) => {
-            let sent = channel.send(to, datagram.as_slice());
-            Ok(sent_name(sent).to_string(heap)?)
-        }
-        None => Err(Stop::Wrong(Wrong::NoChannel)),
-    }
+pub(crate) fn send(line: &mut Line<'_>) -> Result<String, Stop> {
+    let to = line.words.side()?;
+    let datagram = line.words.datagram()?;
+    line.words.end()?;
+    let channel = line.desk.channel.as_mut().ok_or(Wrong::NoChannel)?;
+    let sent = channel.send(to, datagram.as_slice());
+    Ok(sent_name(sent).to_string(line.words.heap)?)
 }
 
 /// `receive END` and `receive END N`: receives at an end, into a buffer of 256 or of N octets.
-pub(crate) fn receive(
-    desk: &mut Desk,
-    heap: Global,
-    words: &mut Words<'_>,
-) -> Result<String, Stop> {
-    let at = words.side()?;
-    let len = read_length(words)?;
-    words.end()?;
+pub(crate) fn receive(line: &mut Line<'_>) -> Result<String, Stop> {
+    let at = line.words.side()?;
+    let len = read_length(&mut line.words)?;
+    line.words.end()?;
     let mut room = [0u8; 256];
-    match &mut desk.channel {
-        Some(channel) => Ok(received_text(heap, channel, at, &mut room[0..len])?),
-        None => Err(Stop::Wrong(Wrong::NoChannel)),
-    }
+    let channel = line.desk.channel.as_mut().ok_or(Wrong::NoChannel)?;
+    Ok(received_text(line.words.heap, channel, at, &mut room[0..len])?)
 }
 
 /// What is printed of a receive into a buffer.
@@ -105,27 +104,15 @@ fn sent_name(sent: Sent) -> &'static str
 }
 
 /// A bottom in which nothing waits.
-fn new_bottom(
-    heap: Global,
-    kind: Kind,
-    longest: usize,
-    letters: &[u8],
-) -> Result<Bottom, MakeRefusal>
-    ensures { BottomMade kind longest result }
+fn new_bottom(heap: Global, wanted: Wanted<'_>) -> Result<Bottom, MakeRefusal>
+    ensures { BottomMade wanted.entry result }
 {
-    match kind {
-        Kind::Queue => Ok(Bottom::Queue(Queue::new(longest)?)),
-        Kind::Stack => Ok(Bottom::Stack(Stack::new(longest)?)),
-        Kind::Trace => Ok(Bottom::Trace(Trace::new(heap, longest, letters)?)),
-    }
-}
-
-/// What is printed of a bottom.
-fn bottom_text(heap: Global, kind: Kind, longest: u32, fates: &str) -> Result<String, AllocError> {
-    match kind {
-        Kind::Queue => format!(in heap; "queue {longest}"),
-        Kind::Stack => format!(in heap; "stack {longest}"),
-        Kind::Trace => format!(in heap; "trace {longest} {fates}"),
+    match wanted {
+        Wanted::Queue { longest } => Queue::new(longest as usize).map(Bottom::Queue),
+        Wanted::Stack { longest } => Stack::new(longest as usize).map(Bottom::Stack),
+        Wanted::Trace { longest, fates } => {
+            Trace::new(heap, longest as usize, letters_of(fates)).map(Bottom::Trace)
+        }
     }
 }
 
@@ -139,23 +126,27 @@ fn markers_text(markers: usize) -> &'static str {
     }
 }
 
-/// The name of a kind.
-fn read_kind(words: &mut Words<'_>) -> Result<Kind, Stop> {
+/// `queue N`, `stack N` or `trace N FATES`.
+fn read_wanted<'a>(words: &mut Words<'a>) -> Result<Wanted<'a>, Stop> {
     let expected = "`queue`, `stack` or `trace`";
     match words.word(expected)? {
-        "queue" => Ok(Kind::Queue),
-        "stack" => Ok(Kind::Stack),
-        "trace" => Ok(Kind::Trace),
-        word => Err(words.unexpected(word, expected)),
+        "queue" => Ok(Wanted::Queue {
+            longest: read_longest(words)?,
+        }),
+        "stack" => Ok(Wanted::Stack {
+            longest: read_longest(words)?,
+        }),
+        "trace" => Ok(Wanted::Trace {
+            longest: read_longest(words)?,
+            fates: words.word("the fates of what is sent, or `-` for none")?,
+        }),
+        word => words.unexpected(word, expected),
     }
 }
 
-/// The fates of a trace, as they are written; a queue and a stack have none.
-fn read_fates<'a>(kind: Kind, words: &mut Words<'a>) -> Result<&'a str, Stop> {
-    match kind {
-        Kind::Trace => words.word("the fates of what is sent, or `-` for none"),
-        _ => Ok(""),
-    }
+/// The most octets of a datagram.
+fn read_longest(words: &mut Words<'_>) -> Result<u32, Stop> {
+    words.number("the most octets of a datagram")
 }
 
 /// The letters of the fates; `-` stands for none.
@@ -171,7 +162,7 @@ fn read_markers(words: &mut Words<'_>) -> Result<usize, Stop> {
     for markers in 0..3 {
         match words.next() {
             Some("marker") => {}
-            Some(word) => return Err(words.unexpected(word, "`marker` or the end of the line")),
+            Some(word) => return words.unexpected(word, "`marker` or the end of the line"),
             None => return Ok(markers),
         }
     }
@@ -187,7 +178,7 @@ fn read_length(words: &mut Words<'_>) -> Result<usize, Stop>
         Some(word) => {
             let octets = words.number_from(word)?;
             if octets > 256 {
-                return Err(Stop::Wrong(Wrong::BufferLength(octets)));
+                return Err(Wrong::BufferLength(octets).into());
             }
             Ok(octets as usize)
         }

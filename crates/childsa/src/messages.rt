@@ -6,7 +6,7 @@ ghost use Rattle.nonce.specs.Order.{lower_of, loser_in};
 ghost use Rattle.childsa.specs.Hex.{hex_text};
 ghost use Rattle.childsa.specs.Read.{side_text};
 
-use crate::hex::to_hex;
+use crate::digits::to_hex;
 use crate::words::{Words, side_name};
 use crate::wrong::{Stop, Wrong};
 use nonce::Nonce;
@@ -18,39 +18,39 @@ use wire::message::{Body, Failure, Message, Request, Response};
 const LONGEST: usize = 160;
 
 /// `decode HEX`: the message that the octets are, or the number of the check that they fail.
-pub(crate) fn decode(heap: Global, words: &mut Words<'_>) -> Result<String, Stop> {
+pub(crate) fn decode(words: &mut Words<'_>) -> Result<String, Stop> {
     let octets = words.datagram()?;
     words.end()?;
     match wire::decode::decode(octets.as_slice()) {
-        Ok(message) => Ok(message_text(heap, &message)?),
+        Ok(message) => Ok(message_text(words.heap, &message)?),
         Err(refusal) => {
             let number = refusal.number();
-            Ok(format!(in heap; "refused {number}")?)
+            Ok(format!(in words.heap; "refused {number}")?)
         }
     }
 }
 
 /// `encode MESSAGE`: the octets of the message.
-pub(crate) fn encode(heap: Global, words: &mut Words<'_>) -> Result<String, Stop> {
+pub(crate) fn encode(words: &mut Words<'_>) -> Result<String, Stop> {
     let message = read_message(words)?;
     words.end()?;
-    octets_text(heap, &message)
+    octets_text(words.heap, &message)
 }
 
 /// `lower NONCE NONCE`: the lower of the two.
-pub(crate) fn lower(heap: Global, words: &mut Words<'_>) -> Result<String, Stop> {
+pub(crate) fn lower(words: &mut Words<'_>) -> Result<String, Stop> {
     let first = words.nonce("a nonce")?;
     let second = words.nonce("a second nonce")?;
     words.end()?;
-    Ok(lower_text(heap, &first, &second)?)
+    Ok(lower_text(words.heap, &first, &second)?)
 }
 
 /// `loser NONCE NONCE NONCE NONCE`: whose new SA loses, by the nonces of A's exchange and then of B's.
-pub(crate) fn loser(heap: Global, words: &mut Words<'_>) -> Result<String, Stop> {
+pub(crate) fn loser(words: &mut Words<'_>) -> Result<String, Stop> {
     let a = read_exchanged(words)?;
     let b = read_exchanged(words)?;
     words.end()?;
-    Ok(loser_name(&a, &b).to_string(heap)?)
+    Ok(loser_name(&a, &b).to_string(words.heap)?)
 }
 
 /// The nonces of an exchange.
@@ -68,10 +68,8 @@ fn octets_text(heap: Global, message: &Message<Nonce>) -> Result<String, Stop>
     ensures { IfOk result (λ s. string_bytes s ≡ hex_text (octets_of (plain nonce_octets message.now))) }
 {
     let mut buffer = [0u8; LONGEST];
-    match message.encode(&mut buffer) {
-        Ok(len) => Ok(to_hex(heap, &buffer[0..len])?),
-        Err(_) => Err(Stop::Wrong(Wrong::NoRoom)),
-    }
+    let len = message.encode(&mut buffer).map_err(|_| Wrong::NoRoom)?;
+    Ok(to_hex(heap, &buffer[0..len])?)
 }
 
 /// The lower of two nonces as text.
@@ -165,12 +163,13 @@ fn read_message(words: &mut Words<'_>) -> Result<Message<Nonce>, Stop> {
 
 /// `request` or `response`.
 fn read_direction(words: &mut Words<'_>) -> Result<Direction, Stop> {
-    let expected = "`request` or `response`";
-    match words.word(expected)? {
-        "request" => Ok(Direction::Asking),
-        "response" => Ok(Direction::Answering),
-        word => Err(words.unexpected(word, expected)),
-    }
+    words.choice(
+        "`request` or `response`",
+        &[
+            ("request", Direction::Asking),
+            ("response", Direction::Answering),
+        ],
+    )
 }
 
 /// What a request asks for.
@@ -198,7 +197,7 @@ fn read_request(words: &mut Words<'_>) -> Result<Request<Nonce>, Stop> {
             spi: read_spi(words)?,
         }),
         "empty" => Ok(Request::Empty),
-        word => Err(words.unexpected(word, expected)),
+        word => words.unexpected(word, expected),
     }
 }
 
@@ -218,7 +217,7 @@ fn read_response(words: &mut Words<'_>) -> Result<Response<Nonce>, Stop> {
             spi: read_spi(words)?,
         }),
         "empty" => Ok(Response::Empty),
-        word => Err(words.unexpected(word, expected)),
+        word => words.unexpected(word, expected),
     }
 }
 
@@ -232,7 +231,7 @@ fn read_failure(words: &mut Words<'_>) -> Result<Failure, Stop> {
         "44" => Ok(Failure::ChildSaNotFound {
             spi: read_spi(words)?,
         }),
-        word => Err(words.unexpected(word, expected)),
+        word => words.unexpected(word, expected),
     }
 }
 

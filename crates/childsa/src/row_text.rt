@@ -4,7 +4,7 @@ ghost use Rattle.nonce.specs.Nonces.{as_nonce};
 ghost use Rattle.book.specs.Rows.{kept_octets, nr_octets};
 ghost use Rattle.childsa.specs.Told.{spis_text, standing_text, nonce_text, nonces_text, row_text};
 
-use crate::hex::to_hex;
+use crate::digits::to_hex;
 use crate::words::Words;
 use crate::wrong::Stop;
 use book::row::{Beginner, KeptNonce, Row, RowState, Spis};
@@ -91,25 +91,24 @@ pub(crate) fn read_row(words: &mut Words<'_>) -> Result<Row, Stop> {
 
 /// The number of a state.
 fn read_state(words: &mut Words<'_>) -> Result<RowState, Stop> {
-    let expected = "a state, 1 to 5";
-    match words.word(expected)? {
-        "1" => Ok(RowState::Opening),
-        "2" => Ok(RowState::Fresh),
-        "3" => Ok(RowState::Standing),
-        "4" => Ok(RowState::Superseded),
-        "5" => Ok(RowState::Closing),
-        word => Err(words.unexpected(word, expected)),
-    }
+    words.choice(
+        "a state, 1 to 5",
+        &[
+            ("1", RowState::Opening),
+            ("2", RowState::Fresh),
+            ("3", RowState::Standing),
+            ("4", RowState::Superseded),
+            ("5", RowState::Closing),
+        ],
+    )
 }
 
 /// The number of who began.
 fn read_beginner(words: &mut Words<'_>) -> Result<Beginner, Stop> {
-    let expected = "0 or 1, who began";
-    match words.word(expected)? {
-        "0" => Ok(Beginner::ThisEnd),
-        "1" => Ok(Beginner::Peer),
-        word => Err(words.unexpected(word, expected)),
-    }
+    words.choice(
+        "0 or 1, who began",
+        &[("0", Beginner::ThisEnd), ("1", Beginner::Peer)],
+    )
 }
 
 /// `parent OWN PEER`.
