@@ -37,6 +37,19 @@ impl fmt::Display for Wanted<'_> {
     }
 }
 
+/// How many markers are asked for over the bottom, at most three.
+#[derive(Clone, Copy)]
+struct Markers(usize);
+
+impl fmt::Display for Markers {
+    fn fmt<W: fmt::Write>(&self, f: &mut fmt::Formatter<W>) -> fmt::Result {
+        for _ in 0..self.0 {
+            write!(f, " marker")?;
+        }
+        Ok(())
+    }
+}
+
 /// `channel BOTTOM MARKERS`: makes the channel.
 pub(crate) fn make(line: &mut Line<'_>) -> Result<String, Stop> {
     let heap = line.words.heap;
@@ -44,11 +57,10 @@ pub(crate) fn make(line: &mut Line<'_>) -> Result<String, Stop> {
     let markers = read_markers(&mut line.words)?;
     match new_bottom(heap, wanted) {
         Ok(bottom) => {
-            let pile = pile::over(bottom, markers);
+            let pile = pile::over(bottom, markers.0);
             let most = pile.longest();
             line.desk.channel = Some(pile);
-            let layers = markers_text(markers);
-            Ok(format!(in heap; "channel {wanted}{layers} longest {most}")?)
+            Ok(format!(in heap; "channel {wanted}{markers} longest {most}")?)
         }
         Err(MakeRefusal::NoMemory) => Err(AllocError.into()),
         Err(refusal) => {
@@ -116,16 +128,6 @@ fn new_bottom(heap: Global, wanted: Wanted<'_>) -> Result<Bottom, MakeRefusal>
     }
 }
 
-/// What is printed of markers, at most three.
-fn markers_text(markers: usize) -> &'static str {
-    match markers {
-        0 => "",
-        1 => " marker",
-        2 => " marker marker",
-        _ => " marker marker marker",
-    }
-}
-
 /// `queue N`, `stack N` or `trace N FATES`.
 fn read_wanted<'a>(words: &mut Words<'a>) -> Result<Wanted<'a>, Stop> {
     let expected = "`queue`, `stack` or `trace`";
@@ -157,31 +159,29 @@ fn letters_of(fates: &str) -> &[u8] {
     }
 }
 
-/// How many times `marker` stands before the end of the line, at most three.
-fn read_markers(words: &mut Words<'_>) -> Result<usize, Stop> {
+/// `marker`, up to three times before the end of the line.
+fn read_markers(words: &mut Words<'_>) -> Result<Markers, Stop> {
     for markers in 0..3 {
         match words.next() {
             Some("marker") => {}
             Some(word) => return words.unexpected(word, "`marker` or the end of the line"),
-            None => return Ok(markers),
+            None => return Ok(Markers(markers)),
         }
     }
     words.end()?;
-    Ok(3)
+    Ok(Markers(3))
 }
 
 /// The length of a buffer, or 256 where none is given.
 fn read_length(words: &mut Words<'_>) -> Result<usize, Stop>
     ensures { IfOk result (λ n. n ≤ 256) }
 {
-    match words.next() {
-        Some(word) => {
-            let octets = words.number_from(word)?;
-            if octets > 256 {
-                return Err(Wrong::BufferLength(octets).into());
-            }
-            Ok(octets as usize)
-        }
-        None => Ok(256),
+    let Some(word) = words.next() else {
+        return Ok(256);
+    };
+    let octets = words.number_from(word)?;
+    if octets > 256 {
+        return Err(Wrong::BufferLength(octets).into());
     }
+    Ok(octets as usize)
 }

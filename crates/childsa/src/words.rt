@@ -52,10 +52,7 @@ impl<'a> Words<'a> {
 
     /// The next word, which stands for what is expected.
     pub(crate) fn word(&mut self, expected: &str) -> Result<&'a str, Stop> {
-        match self.next() {
-            Some(word) => Ok(word),
-            None => Err(Wrong::Missing(expected.to_string(self.heap)?).into()),
-        }
+        self.next().try_ok_or_else(|| Ok(Wrong::Missing(expected.to_string(self.heap)?).into()))
     }
 
     /// What the next word stands for: it is one of those that a table lists.
@@ -65,10 +62,10 @@ impl<'a> Words<'a> {
         table: &[(&str, T)],
     ) -> Result<T, Stop> {
         let word = self.word(expected)?;
-        match table.iter().find(|(listed, _)| *listed == word) {
-            Some((_, meant)) => Ok(*meant),
-            None => self.unexpected(word, expected),
-        }
+        let Some((_, meant)) = table.iter().find(|(listed, _)| *listed == word) else {
+            return self.unexpected(word, expected);
+        };
+        Ok(*meant)
     }
 
     /// The next word, which is to be this one.
@@ -106,10 +103,9 @@ impl<'a> Words<'a> {
     pub(crate) fn octets_from(&self, word: &str) -> Result<Vec<u8>, Stop>
         ensures { IfOk result (λ v. Some v.items ≡ from_hex word.now) }
     {
-        match from_hex(self.heap, word)? {
-            Some(octets) => Ok(octets),
-            None => Err(Wrong::NotHex(word.to_string(self.heap)?).into()),
-        }
+        from_hex(self.heap, word)?.try_ok_or_else(|| Ok(Wrong::NotHex(word.to_string(
+            self.heap,
+        )?).into()))
     }
 
     /// An SPI of the IKE SA.
