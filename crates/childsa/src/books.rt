@@ -2,17 +2,18 @@
 ghost use Rattle.std.specs.Prelude.{◌≡◌, IfOk, string_bytes};
 ghost use Rattle.book.specs.Audits.{audited};
 ghost use Rattle.book.specs.Shelves.{put_in, written_in, removed_from, read_in, find as found_in, next as next_in};
-ghost use Rattle.childsa.specs.Told.{refusal_text, answer_text, told, spi_text, read_text, rows_text, finding_text};
+ghost use Rattle.childsa.specs.Told.{told, spi_text, read_text, rows_text, finding_text};
 
 use crate::any_book::AnyBook;
 use crate::commands::Line;
 use crate::desk::Desk;
 use crate::row_text::{read_row, row_text};
-use crate::words::{Words, side_name};
+use crate::told::Told;
+use crate::words::Words;
 use crate::wrong::{Stop, Wrong};
+use book::Book;
 use book::audit::Finding;
 use book::row::Row;
-use book::{Book, BookRefusal};
 use nonce::side::Side;
 use ordered::OrderedBook;
 use std::alloc::{AllocError, Global};
@@ -24,7 +25,7 @@ pub(crate) fn start(line: &mut Line<'_>) -> Result<String, Stop> {
     let side = line.words.side()?;
     line.words.end()?;
     line.desk.start(side, book);
-    let name = side_name(side);
+    let name = Told(side);
     Ok(format!(in line.words.heap; "book {name} {kind}")?)
 }
 
@@ -89,7 +90,7 @@ pub(crate) fn audit(line: &mut Line<'_>) -> Result<String, Stop> {
 
 /// The book of a name.
 fn book_of(desk: &Desk, name: Side) -> Result<&AnyBook, Wrong> {
-    desk.book(name).ok_or(Wrong::NoBook(name))
+    desk.book(name).ok_or(Wrong::NoBook(Told(name)))
 }
 
 /// An own SPI, to find a row by.
@@ -109,11 +110,11 @@ where
     let name = line.words.side()?;
     let behind = read(&mut line.words)?;
     line.words.end()?;
-    let book = line.desk.book_mut(name).ok_or(Wrong::NoBook(name))?;
+    let book = line.desk.book_mut(name).ok_or(Wrong::NoBook(Told(name)))?;
     Ok(step(line.words.heap, book, behind)?)
 }
 
-/// What a book answers to what is read behind its name.
+/// What a book answers to what is read behind its name. Apart from `change`, so that a question takes the book as it is.
 fn ask<'a, X, R, F>(line: &mut Line<'a>, read: R, question: F) -> Result<String, Stop>
 where
     X: Drop,
@@ -133,21 +134,21 @@ where
 fn put_in<B: Book>(heap: Global, book: &mut B, row: Row) -> Result<String, AllocError>
     ensures { IfOk result (λ s. (string_bytes s, B.Book.shelf book.new) ≡ told (put_in (B.Book.shelf book.old) row)) }
 {
-    answer_text(heap, book.put(row))
+    Told(book.put(row)).to_string(heap)
 }
 
 /// Puts a row into the place of the one that has its own SPI, and tells the answer.
 fn write_in<B: Book>(heap: Global, book: &mut B, row: Row) -> Result<String, AllocError>
     ensures { IfOk result (λ s. (string_bytes s, B.Book.shelf book.new) ≡ told (written_in (B.Book.shelf book.old) row)) }
 {
-    answer_text(heap, book.write(row))
+    Told(book.write(row)).to_string(heap)
 }
 
 /// Removes the row of an own SPI, and tells the answer.
 fn remove_from<B: Book>(heap: Global, book: &mut B, own: u32) -> Result<String, AllocError>
     ensures { IfOk result (λ s. (string_bytes s, B.Book.shelf book.new) ≡ told (removed_from (B.Book.shelf book.old) own)) }
 {
-    answer_text(heap, book.remove(own))
+    Told(book.remove(own)).to_string(heap)
 }
 
 /// The row of an own SPI as text.
@@ -156,7 +157,7 @@ fn read_text<B: Book>(heap: Global, book: &B, own: u32) -> Result<String, AllocE
 {
     match book.read(own) {
         Ok(row) => row_text(heap, &row),
-        Err(refusal) => refusal_text(heap, refusal),
+        Err(refusal) => Told(refusal).to_string(heap),
     }
 }
 
@@ -164,14 +165,14 @@ fn read_text<B: Book>(heap: Global, book: &B, own: u32) -> Result<String, AllocE
 fn find_text<B: Book>(heap: Global, book: &B, peer: u32) -> Result<String, AllocError>
     ensures { IfOk result (λ s. string_bytes s ≡ spi_text (found_in (B.Book.shelf book.now).rows peer)) }
 {
-    spi_text(heap, book.find(peer))
+    Told(book.find(peer)).to_string(heap)
 }
 
 /// The own SPI that comes next, as text.
 fn next_text<B: Book>(heap: Global, book: &B, own: u32) -> Result<String, AllocError>
     ensures { IfOk result (λ s. string_bytes s ≡ spi_text (next_in (B.Book.shelf book.now).rows own)) }
 {
-    spi_text(heap, book.next(own))
+    Told(book.next(own)).to_string(heap)
 }
 
 /// How many rows there are and can be, as text.
@@ -204,33 +205,5 @@ fn finding_text(heap: Global, finding: Finding) -> Result<String, AllocError>
             let row = row_text(heap, &row)?;
             format!(in heap; "no mirror in A: {row}")
         }
-    }
-}
-
-/// What is printed of the answer to a change.
-fn answer_text(heap: Global, answer: Result<(), BookRefusal>) -> Result<String, AllocError>
-    ensures { IfOk result (λ s. string_bytes s ≡ answer_text answer) }
-{
-    match answer {
-        Ok(()) => String::from_str(heap, "done"),
-        Err(refusal) => refusal_text(heap, refusal),
-    }
-}
-
-/// What is printed of a refusal.
-fn refusal_text(heap: Global, refusal: BookRefusal) -> Result<String, AllocError>
-    ensures { IfOk result (λ s. string_bytes s ≡ refusal_text refusal) }
-{
-    let number = refusal.number();
-    format!(in heap; "refused {number}")
-}
-
-/// An own SPI as text, where there is one.
-fn spi_text(heap: Global, own: Option<u32>) -> Result<String, AllocError>
-    ensures { IfOk result (λ s. string_bytes s ≡ spi_text own) }
-{
-    match own {
-        Some(own) => own.to_string(heap),
-        None => String::from_str(heap, "none"),
     }
 }

@@ -7,6 +7,7 @@ use crate::bottom::Bottom;
 use crate::commands::Line;
 use crate::digits::to_hex;
 use crate::pile;
+use crate::told::Told;
 use crate::words::Words;
 use crate::wrong::{Stop, Wrong};
 use bottoms::queue::Queue;
@@ -77,7 +78,7 @@ pub(crate) fn send(line: &mut Line<'_>) -> Result<String, Stop> {
     line.words.end()?;
     let channel = line.desk.channel.as_mut().ok_or(Wrong::NoChannel)?;
     let sent = channel.send(to, datagram.as_slice());
-    Ok(sent_name(sent).to_string(line.words.heap)?)
+    Ok(Told(sent).to_string(line.words.heap)?)
 }
 
 /// `receive END` and `receive END N`: receives at an end, into a buffer of 256 or of N octets.
@@ -102,16 +103,6 @@ fn received_text<C: Channel>(
     match channel.receive(at, buffer) {
         Some(len) => to_hex(heap, &buffer[0..len]),
         None => String::from_str(heap, "nothing"),
-    }
-}
-
-/// What is printed of a send.
-fn sent_name(sent: Sent) -> &'static str
-    ensures { result.now ≡ sent_text sent }
-{
-    match sent {
-        Sent::Taken => "taken",
-        Sent::NotTaken => "not taken",
     }
 }
 

@@ -43,7 +43,7 @@ impl Desk {
         }
     }
 
-    /// The book of a name, to change it.
+    /// The book of a name, to change it: beside `book`, as `as_mut` is beside `as_ref`.
     pub(crate) fn book_mut(&mut self, name: Side) -> Option<&mut AnyBook> {
         match name {
             Side::A => self.a.as_mut(),

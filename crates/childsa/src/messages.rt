@@ -7,7 +7,8 @@ ghost use Rattle.childsa.specs.Hex.{hex_text};
 ghost use Rattle.childsa.specs.Read.{side_text};
 
 use crate::digits::to_hex;
-use crate::words::{Words, side_name};
+use crate::told::Told;
+use crate::words::Words;
 use crate::wrong::{Stop, Wrong};
 use nonce::Nonce;
 use nonce::order::{Exchanged, compare};
@@ -50,7 +51,7 @@ pub(crate) fn loser(words: &mut Words<'_>) -> Result<String, Stop> {
     let a = read_exchanged(words)?;
     let b = read_exchanged(words)?;
     words.end()?;
-    Ok(loser_name(&a, &b).to_string(words.heap)?)
+    Ok(loser_text(words.heap, &a, &b)?)
 }
 
 /// The nonces of an exchange.
@@ -79,18 +80,18 @@ fn lower_text(heap: Global, first: &Nonce, second: &Nonce) -> Result<String, All
     to_hex(heap, compare::lower(first, second))
 }
 
-/// The name of the end whose new SA loses.
-fn loser_name(a: &Exchanged, b: &Exchanged) -> &'static str
-    ensures { result.now ≡ side_text (loser_in a.now b.now) }
+/// The end whose new SA loses, as text.
+fn loser_text(heap: Global, a: &Exchanged, b: &Exchanged) -> Result<String, AllocError>
+    ensures { IfOk result (λ s. string_bytes s ≡ side_text (loser_in a.now b.now)) }
 {
-    side_name(compare::loser(a, b))
+    Told(compare::loser(a, b)).to_string(heap)
 }
 
 /// What is printed of a message.
 fn message_text(heap: Global, message: &Message<&[u8]>) -> Result<String, AllocError> {
     let initiator = to_hex(heap, &message.initiator.to_be_bytes())?;
     let responder = to_hex(heap, &message.responder.to_be_bytes())?;
-    let sender = side_name(message.sender);
+    let sender = Told(message.sender);
     let id = message.id;
     let (direction, kind) = match message.body {
         Body::Request(request) => ("request", request_text(heap, request)?),

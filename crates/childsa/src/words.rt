@@ -3,7 +3,7 @@ ghost use Rattle.std.specs.Prelude.{◌≡◌, ◌++◌, IfOk, Some, string_byte
 ghost use Rattle.std.specs.Option.{option_map};
 ghost use Rattle.nonce.specs.Nonces.{nonce_octets, as_nonce};
 ghost use Rattle.childsa.specs.Hex.{from_hex};
-ghost use Rattle.childsa.specs.Read.{decimal, spread, ike_spi, side_text};
+ghost use Rattle.childsa.specs.Read.{decimal, spread, ike_spi};
 
 use crate::digits::from_hex;
 use crate::wrong::{Stop, Wrong};
@@ -132,16 +132,6 @@ impl<'a> Words<'a> {
     pub(crate) fn nonce_from(&self, word: &str) -> Result<Nonce, Stop> {
         let octets = self.octets_from(word)?;
         Ok(nonce_of(octets.as_slice()).ok_or(Wrong::NonceLength(octets.len()))?)
-    }
-}
-
-/// The name of an end.
-pub(crate) fn side_name(side: Side) -> &'static str
-    ensures { result.now ≡ side_text side }
-{
-    match side {
-        Side::A => "A",
-        Side::B => "B",
     }
 }
 

@@ -1,5 +1,5 @@
 //! What is wrong with a line.
-use crate::words::side_name;
+use crate::told::Told;
 use nonce::side::Side;
 use std::alloc::AllocError;
 use thiserror::Error;
@@ -33,8 +33,8 @@ pub(crate) enum Wrong {
     #[error("the message has more than 160 octets")]
     NoRoom,
     /// The book of this name was not started.
-    #[error("there is no book {}; start one with `book ordered {}` or `book table {}`", side_name(*.0), side_name(*.0), side_name(*.0))]
-    NoBook(Side),
+    #[error("there is no book {0}; start one with `book ordered {0}` or `book table {0}`")]
+    NoBook(Told<Side>),
     #[error("there is no channel; make one with `channel queue 160`, for example")]
     NoChannel,
     #[error("a buffer has 0 to 256 octets here, this has {0}")]

@@ -1,0 +1,69 @@
+//! What is printed of values of other crates' types. One that holds octets is no `Display`: the crate `hex` writes them, and
+//! wants memory, so a function makes its text.
+ghost use Rattle.std.specs.Prelude.{Some};
+ghost use Rattle.childsa.specs.Read.{side_text};
+ghost use Rattle.childsa.specs.Told.{refusal_text, answer_text, spi_text, sent_text};
+
+use book::BookRefusal;
+use channel::sent::Sent;
+use nonce::side::Side;
+use std::fmt;
+
+/// A value in the words that are printed of it.
+#[derive(Clone, Copy, Debug)]
+pub(crate) struct Told<T>(pub(crate) T);
+
+impl fmt::Display for Told<Side> {
+    ghost output = { λ t. Some (side_text t.0) };
+
+    fn fmt<W: fmt::Write>(&self, f: &mut fmt::Formatter<W>) -> fmt::Result {
+        match self.0 {
+            Side::A => write!(f, "A"),
+            Side::B => write!(f, "B"),
+        }
+    }
+}
+
+impl fmt::Display for Told<Sent> {
+    ghost output = { λ t. Some (sent_text t.0) };
+
+    fn fmt<W: fmt::Write>(&self, f: &mut fmt::Formatter<W>) -> fmt::Result {
+        match self.0 {
+            Sent::Taken => write!(f, "taken"),
+            Sent::NotTaken => write!(f, "not taken"),
+        }
+    }
+}
+
+impl fmt::Display for Told<BookRefusal> {
+    ghost output = { λ t. Some (refusal_text t.0) };
+
+    fn fmt<W: fmt::Write>(&self, f: &mut fmt::Formatter<W>) -> fmt::Result {
+        let number = self.0.number();
+        write!(f, "refused {number}")
+    }
+}
+
+/// The answer to a change of a book.
+impl fmt::Display for Told<Result<(), BookRefusal>> {
+    ghost output = { λ t. Some (answer_text t.0) };
+
+    fn fmt<W: fmt::Write>(&self, f: &mut fmt::Formatter<W>) -> fmt::Result {
+        match self.0 {
+            Ok(()) => write!(f, "done"),
+            Err(refusal) => Told(refusal).fmt(f),
+        }
+    }
+}
+
+/// An own SPI, where there is one.
+impl fmt::Display for Told<Option<u32>> {
+    ghost output = { λ t. Some (spi_text t.0) };
+
+    fn fmt<W: fmt::Write>(&self, f: &mut fmt::Formatter<W>) -> fmt::Result {
+        match self.0 {
+            Some(own) => write!(f, "{own}"),
+            None => write!(f, "none"),
+        }
+    }
+}
