@@ -6,7 +6,9 @@ use Rattle.book.specs.Shelves.{Answer, Shelf, book_number}
 use Rattle.book.specs.declared.BookRefusal.{BookRefusal}
 use Rattle.book.specs.declared.audit.Finding.{Finding}
 use Rattle.book.specs.declared.audit.Finding.TheVariants.{AllMirrored, AloneInA, AloneInB}
+use Rattle.book.specs.declared.row.Beginner.{Beginner}
 use Rattle.book.specs.declared.row.Row.{Row}
+use Rattle.book.specs.declared.row.RowState.{RowState}
 use Rattle.channel.specs.Meaning.{Meaning}
 use Rattle.channel.specs.declared.sent.Sent.{Sent}
 use Rattle.channel.specs.declared.sent.Sent.TheVariants.{Taken, NotTaken}
@@ -38,8 +40,11 @@ nonce_text (Some s) = hex_text s
 abbrev pub spis_text : ℕ → ℕ → List ℕ
 spis_text own peer = decimal own ++ (codes " " ++ decimal peer)
 
+abbrev pub state_text : RowState → Beginner → List ℕ
+state_text s b = decimal (state_number s) ++ (codes " " ++ decimal (beginner_number b))
+
 abbrev pub standing_text : Row → List ℕ
-standing_text r = decimal (state_number r.state) ++ (codes " " ++ decimal (beginner_number r.began))
+standing_text r = state_text r.state r.began
 
 abbrev pub nonces_text : Row → List ℕ
 nonces_text r =

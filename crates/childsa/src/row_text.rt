@@ -2,9 +2,10 @@
 ghost use Rattle.std.specs.Prelude.{◌≡◌, IfOk, string_bytes};
 ghost use Rattle.nonce.specs.Nonces.{as_nonce};
 ghost use Rattle.book.specs.Rows.{kept_octets, nr_octets};
-ghost use Rattle.childsa.specs.Told.{spis_text, standing_text, nonce_text, nonces_text, row_text};
+ghost use Rattle.childsa.specs.Told.{nonce_text, nonces_text, row_text};
 
 use crate::digits::to_hex;
+use crate::told::Told;
 use crate::words::Words;
 use crate::wrong::Stop;
 use book::row::{Beginner, KeptNonce, Row, RowState, Spis};
@@ -30,22 +31,6 @@ fn responder_text(heap: Global, row: &Row) -> Result<String, AllocError>
     }
 }
 
-/// Two SPIs as text.
-fn spis_text(heap: Global, own: u32, peer: u32) -> Result<String, AllocError>
-    ensures { IfOk result (λ s. string_bytes s ≡ spis_text own peer) }
-{
-    format!(in heap; "{own} {peer}")
-}
-
-/// The state of a row and who began, as text.
-fn standing_text(heap: Global, row: &Row) -> Result<String, AllocError>
-    ensures { IfOk result (λ s. string_bytes s ≡ standing_text row.now) }
-{
-    let state = row.state.number();
-    let began = row.began.number();
-    format!(in heap; "{state} {began}")
-}
-
 /// The nonces of a row as text.
 fn nonces_text(heap: Global, row: &Row) -> Result<String, AllocError>
     ensures { IfOk result (λ s. string_bytes s ≡ nonces_text row.now) }
@@ -59,9 +44,12 @@ fn nonces_text(heap: Global, row: &Row) -> Result<String, AllocError>
 pub(crate) fn row_text(heap: Global, row: &Row) -> Result<String, AllocError>
     ensures { IfOk result (λ s. string_bytes s ≡ row_text row.now) }
 {
-    let spis = spis_text(heap, row.own, row.peer)?;
-    let standing = standing_text(heap, row)?;
-    let parent = spis_text(heap, row.parent.own, row.parent.peer)?;
+    let spis = Told(Spis {
+        own: row.own,
+        peer: row.peer,
+    });
+    let standing = Told((row.state, row.began));
+    let parent = Told(row.parent);
     let nonces = nonces_text(heap, row)?;
     format!(in heap; "row {spis} {standing} parent {parent} {nonces}")
 }

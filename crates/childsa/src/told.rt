@@ -2,9 +2,10 @@
 //! wants memory, so a function makes its text.
 ghost use Rattle.std.specs.Prelude.{Some};
 ghost use Rattle.childsa.specs.Read.{side_text};
-ghost use Rattle.childsa.specs.Told.{refusal_text, answer_text, spi_text, sent_text};
+ghost use Rattle.childsa.specs.Told.{refusal_text, answer_text, spi_text, spis_text, state_text, sent_text};
 
 use book::BookRefusal;
+use book::row::{Beginner, RowState, Spis};
 use channel::sent::Sent;
 use nonce::side::Side;
 use std::fmt;
@@ -65,5 +66,25 @@ impl fmt::Display for Told<Option<u32>> {
             Some(own) => write!(f, "{own}"),
             None => write!(f, "none"),
         }
+    }
+}
+
+impl fmt::Display for Told<Spis> {
+    ghost output = { λ t. Some (spis_text t.0.own t.0.peer) };
+
+    fn fmt<W: fmt::Write>(&self, f: &mut fmt::Formatter<W>) -> fmt::Result {
+        let Spis { own, peer } = self.0;
+        write!(f, "{own} {peer}")
+    }
+}
+
+/// The state of a row and who began, as numbers.
+impl fmt::Display for Told<(RowState, Beginner)> {
+    ghost output = { λ t. Some (state_text t.0.0 t.0.1) };
+
+    fn fmt<W: fmt::Write>(&self, f: &mut fmt::Formatter<W>) -> fmt::Result {
+        let state = self.0.0.number();
+        let began = self.0.1.number();
+        write!(f, "{state} {began}")
     }
 }
