@@ -1,4 +1,5 @@
-//! The commands on messages and nonces.
+//! The commands on messages and nonces. A message holds octets, whose text wants memory: so functions make its text, and
+//! no `Display`.
 ghost use Rattle.std.specs.Prelude.{◌≡◌, IfOk, string_bytes};
 ghost use Rattle.wire.specs.Messages.{plain, octets_of};
 ghost use Rattle.nonce.specs.Nonces.{nonce_octets};

@@ -1,4 +1,5 @@
-//! Rows in words: how they are read from a script, and printed.
+//! Rows in words: how they are read from a script, and printed. A row holds octets, whose text wants memory: so functions
+//! make its text, and no `Display`.
 ghost use Rattle.std.specs.Prelude.{◌≡◌, IfOk, string_bytes};
 ghost use Rattle.nonce.specs.Nonces.{as_nonce};
 ghost use Rattle.book.specs.Rows.{kept_octets, nr_octets};

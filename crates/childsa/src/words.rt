@@ -85,7 +85,8 @@ impl<'a> Words<'a> {
         if !is_decimal(word) {
             return Err(Wrong::NotNumber(word.to_string(self.heap)?).into());
         }
-        word.parse::<u32>().or_else(|_| Err(Wrong::TooLarge(word.to_string(self.heap)?).into()))
+        word.parse::<u32>()
+            .try_map_err(|_| Ok(Wrong::TooLarge(word.to_string(self.heap)?).into()))
     }
 
     /// An end of the IKE SA.
@@ -103,9 +104,8 @@ impl<'a> Words<'a> {
     pub(crate) fn octets_from(&self, word: &str) -> Result<Vec<u8>, Stop>
         ensures { IfOk result (λ v. Some v.items ≡ from_hex word.now) }
     {
-        from_hex(self.heap, word)?.try_ok_or_else(|| Ok(Wrong::NotHex(word.to_string(
-            self.heap,
-        )?).into()))
+        let octets = from_hex(self.heap, word)?;
+        octets.try_ok_or_else(|| Ok(Wrong::NotHex(word.to_string(self.heap)?).into()))
     }
 
     /// An SPI of the IKE SA.
