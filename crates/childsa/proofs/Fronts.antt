@@ -1,5 +1,6 @@
 -- The front of a buffer that a message was written into.
-use Rattle.std.proofs.Common.{◌≡◌, ℕ, ◌-◌, ◌≤◌, Bool, true, false, cond, ltb, List, ◌++◌, length, take, drop, Ok, Err, refl, ap, ◌∙◌, arith}
+use Rattle.std.proofs.Common.{◌≡◌, ℕ, ◌-◌, ◌≤◌, Bool, true, false, cond, ltb, List, ◌++◌, length, take, drop, Result, Ok, Err, refl, ap, ◌∙◌, arith}
+use Rattle.std.specs.Prelude.{MatchResult, is_ok}
 use lib.Seq.{take-append_seam}
 use Rattle.std.proofs.lemmas.Bool.{ltb-false}
 use Rattle.wire.specs.Messages.{octets_of}
@@ -27,3 +28,9 @@ pub shown : (m : Message (List ℕ)) (out after : List ℕ) (len : ℕ) (t : Lis
 shown m out after len t r e p =
     let same : len - 0 ≡ len = omega arith in
     p ∙ ap (λ n. hex_text (take n after)) same ∙ ap (λ l. hex_text (take len l)) e ∙ ap hex_text (front m out len r).octets
+
+-- an answer of which another differs in its error alone
+pub mapped_ok : {T E D : Type 0} (Q : E → Type 0) (r : Result T E) (q : Result T D) (x : T) → MatchResult r (λ y. q ≡ Ok y) Q → is_ok q ≡ is_ok r → q ≡ Ok x → r ≡ Ok x
+mapped_ok Q (Ok y) q x m v e = cc
+mapped_ok Q (Err z) (Ok y) x m v e = cc
+mapped_ok Q (Err z) (Err d) x m v e = cc

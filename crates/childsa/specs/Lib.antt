@@ -4,5 +4,3 @@ pub mod Books
 pub mod Piles
 pub mod Desks
 pub mod Told
-pub mod Orderly
-pub mod Through

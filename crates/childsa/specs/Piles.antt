@@ -1,5 +1,5 @@
 -- Channels: a bottom, and the markers over it.
-use Rattle.std.specs.Prelude.{◌≡◌, ℕ, cond, Ok, Err, Result, ◌==◌}
+use Rattle.std.specs.Prelude.{◌≡◌, ℕ, Bool, true, false, Ok, Err, Result, nat_lt}
 use Rattle.channel.specs.Meaning.{Meaning}
 use Rattle.channel.specs.Marks.{marked}
 use Rattle.bottoms.specs.Bottoms.{queue_means, stack_means}
@@ -7,9 +7,9 @@ use Rattle.bottoms.specs.Traces.{trace_means, TraceRefused}
 use Rattle.bottoms.specs.declared.refusal.MakeRefusal.{MakeRefusal}
 use Rattle.childsa.specs.declared.bottom.Bottom.{Bottom}
 use Rattle.childsa.specs.declared.bottom.Bottom.TheVariants.{Queue, Stack, Trace}
-use Rattle.childsa.specs.declared.channels.Kind.{Kind}
-use Rattle.childsa.specs.declared.pile.Pile.{Pile}
-use Rattle.childsa.specs.declared.pile.Pile.TheVariants.{Plain, One, Two, Three}
+use Rattle.childsa.specs.declared.channels.Wanted.{Wanted}
+use Rattle.childsa.specs.declared.pile.Layer.{Layer}
+use Rattle.childsa.specs.declared.pile.Layer.TheVariants.{Bare, Marked}
 
 -- what a bottom means, by its kind
 abbrev pub bottom_means : Bottom → Meaning
@@ -17,27 +17,43 @@ bottom_means (Queue c) = queue_means c
 bottom_means (Stack c) = stack_means c
 bottom_means (Trace c) = trace_means c
 
+-- what a layer means: what the channel does, or with the marks of the marker over it
+abbrev pub layer_means : {C : Type 0} → (C → Meaning) → Layer C → Meaning
+layer_means m (Bare c) = m c
+layer_means m (Marked c) = marked (m c.below)
+
 -- what a pile means: each marker marks what is below it
-abbrev pub pile_means : Pile → Meaning
-pile_means (Plain c) = bottom_means c
-pile_means (One c) = marked (bottom_means c.below)
-pile_means (Two c) = marked (marked (bottom_means c.below.below))
-pile_means (Three c) = marked (marked (marked (bottom_means c.below.below.below)))
+abbrev pub pile_means : Layer (Layer (Layer Bottom)) → Meaning
+pile_means p = layer_means (layer_means (layer_means bottom_means)) p
+
+-- a channel, and a marker over it where it is to be marked
+abbrev pub layered : {C : Type 0} → C → Bool → Layer C
+layered c true = Marked (record { below = c })
+layered c false = Bare c
 
 -- a bottom with this many markers over it, at most three
-abbrev pub piled : Bottom → ℕ → Pile
-piled c n =
-    cond (n == 0) (Plain c)
-    (cond (n == 1) (One (record { below = c }))
-    (cond (n == 2) (Two (record { below = record { below = c } })) (Three (record { below = record { below = record { below = c } } }))))
+abbrev pub piled : Bottom → ℕ → Layer (Layer (Layer Bottom))
+piled c n = layered (layered (layered c (nat_lt 0 n)) (nat_lt 1 n)) (nat_lt 2 n)
 
--- the kind of a bottom
-abbrev pub kind_of : Bottom → Kind
-kind_of (Queue c) = Kind.Queue
-kind_of (Stack c) = Kind.Stack
-kind_of (Trace c) = Kind.Trace
+-- the longest datagram that is asked for
+abbrev pub longest_wanted : Wanted → ℕ
+longest_wanted (Wanted.Queue n) = n
+longest_wanted (Wanted.Stack n) = n
+longest_wanted (Wanted.Trace n f) = n
+
+-- whether a bottom is of the kind that is asked for
+abbrev pub is_wanted : Wanted → Bottom → Bool
+is_wanted (Wanted.Queue n) (Queue c) = true
+is_wanted (Wanted.Queue n) (Stack c) = false
+is_wanted (Wanted.Queue n) (Trace c) = false
+is_wanted (Wanted.Stack n) (Queue c) = false
+is_wanted (Wanted.Stack n) (Stack c) = true
+is_wanted (Wanted.Stack n) (Trace c) = false
+is_wanted (Wanted.Trace n f) (Queue c) = false
+is_wanted (Wanted.Trace n f) (Stack c) = false
+is_wanted (Wanted.Trace n f) (Trace c) = true
 
 -- a bottom that was made is of the kind and the longest that were asked for; one that was not made is refused by its longest
-abbrev pub BottomMade : Kind → ℕ → Result Bottom MakeRefusal → Type 0
-BottomMade kind longest (Ok c) = (kind_of c ≡ kind) × ((bottom_means c).longest ≡ longest)
-BottomMade kind longest (Err e) = TraceRefused longest e
+abbrev pub BottomMade : Wanted → Result Bottom MakeRefusal → Type 0
+BottomMade w (Ok c) = (is_wanted w c ≡ true) × ((bottom_means c).longest ≡ longest_wanted w)
+BottomMade w (Err e) = TraceRefused (longest_wanted w) e

@@ -1,12 +1,12 @@
 -- What the words of a script stand for.
-use Rattle.std.specs.Prelude.{ℕ, Bool, true, cond, ◌&&◌, List, [], ◌∷◌, length, replicate, Some, None, Option, ◌==◌}
+use Rattle.std.specs.Prelude.{ℕ, Bool, cond, List, [], ◌∷◌, length, replicate, Some, None, codes, Option, ◌==◌}
 use Rattle.std.specs.Char.{is_ascii_digit}
+use Rattle.std.specs.List.{list_all}
 use Rattle.octets.specs.Numbers.{long}
 
 -- whether a text is made of decimal digits
 abbrev pub decimal : List ℕ → Bool
-decimal [] = true
-decimal (c ∷ cs) = is_ascii_digit c && decimal cs
+decimal s = list_all is_ascii_digit s
 
 -- the octets that a nonce is written by: one alone stands for sixteen of it
 abbrev pub spread : List ℕ → List ℕ

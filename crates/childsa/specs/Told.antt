@@ -4,17 +4,23 @@ use Rattle.nonce.specs.Nonces.{as_nonce}
 use Rattle.book.specs.Rows.{state_number, beginner_number, kept_octets, nr_octets}
 use Rattle.book.specs.Shelves.{Answer, Shelf, book_number}
 use Rattle.book.specs.declared.BookRefusal.{BookRefusal}
-use Rattle.book.specs.declared.audit.Finding.{Finding}
-use Rattle.book.specs.declared.audit.Finding.TheVariants.{AllMirrored, AloneInA, AloneInB}
+use Rattle.book.specs.declared.audit.Alone.{Alone}
+use Rattle.book.specs.declared.row.Beginner.{Beginner}
 use Rattle.book.specs.declared.row.Row.{Row}
+use Rattle.book.specs.declared.row.RowState.{RowState}
 use Rattle.channel.specs.Meaning.{Meaning}
 use Rattle.channel.specs.declared.sent.Sent.{Sent}
 use Rattle.channel.specs.declared.sent.Sent.TheVariants.{Taken, NotTaken}
 use Rattle.nonce.specs.declared.side.Side.{Side}
+use Rattle.nonce.specs.declared.side.Side.TheVariants.{A, B}
 use Rattle.childsa.specs.Hex.{hex_text}
 
+-- a refusal of any layer, by its number
+abbrev pub refused_text : ℕ → List ℕ
+refused_text n = codes "refused " ++ decimal n
+
 abbrev pub refusal_text : BookRefusal → List ℕ
-refusal_text e = codes "refused " ++ decimal (book_number e)
+refusal_text e = refused_text (book_number e)
 
 -- a change of a book: what is printed of the answer, and what it leaves
 abbrev pub answer_text : Answer → List ℕ
@@ -38,8 +44,11 @@ nonce_text (Some s) = hex_text s
 abbrev pub spis_text : ℕ → ℕ → List ℕ
 spis_text own peer = decimal own ++ (codes " " ++ decimal peer)
 
+abbrev pub state_text : RowState → Beginner → List ℕ
+state_text s b = decimal (state_number s) ++ (codes " " ++ decimal (beginner_number b))
+
 abbrev pub standing_text : Row → List ℕ
-standing_text r = decimal (state_number r.state) ++ (codes " " ++ decimal (beginner_number r.began))
+standing_text r = state_text r.state r.began
 
 abbrev pub nonces_text : Row → List ℕ
 nonces_text r =
@@ -58,10 +67,13 @@ read_text (Err e) = refusal_text e
 abbrev pub rows_text : Shelf → List ℕ
 rows_text s = decimal (length s.rows) ++ (codes " of " ++ decimal s.most)
 
-abbrev pub finding_text : Finding → List ℕ
-finding_text AllMirrored = codes "all rows have their mirror"
-finding_text (AloneInA r) = codes "no mirror in B: " ++ row_text r
-finding_text (AloneInB r) = codes "no mirror in A: " ++ row_text r
+abbrev pub alone_in : Side → List ℕ
+alone_in A = codes "no mirror in B: "
+alone_in B = codes "no mirror in A: "
+
+abbrev pub finding_text : Option Alone → List ℕ
+finding_text None = codes "all rows have their mirror"
+finding_text (Some a) = alone_in a.side ++ row_text a.row
 
 -- the answer to a send
 abbrev pub sent_text : Sent → List ℕ

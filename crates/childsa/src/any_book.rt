@@ -1,26 +1,25 @@
 //! A book of either kind.
 ghost use Rattle.childsa.specs.Books.{any_shelf};
 ghost use Rattle.childsa.specs.declared.any_book.AnyBook.TheVariants.{Ordered, Table};
-ghost use Rattle.childsa.specs.Orderly.{ordered_orderly, table_orderly};
 
 use book::row::Row;
 use book::{Book, BookRefusal};
 use ordered::OrderedBook;
 use table::TableBook;
 
-/// A book whose kind the script chooses.
+/// A book whose kind the script chooses. Each method is a match, since no function may make a `dyn Book` and hand it out.
 #[derive(Drop)]
-pub(crate) enum AnyBook {
-    Ordered(Box<OrderedBook>),
-    Table(Box<TableBook>),
+pub(crate) enum AnyBook<O = OrderedBook, T = TableBook> {
+    Ordered(Box<O>),
+    Table(Box<T>),
 }
 
-impl Book for AnyBook {
-    ghost shelf = { any_shelf };
+impl<O: Book, T: Book> Book for AnyBook<O, T> {
+    ghost shelf = { λ b. any_shelf O.Book.shelf T.Book.shelf b };
 
     ghost orderly = { elim [
-      | Ordered b ↦ ordered_orderly b.value
-      | Table b ↦ table_orderly b.value
+      | Ordered b ↦ O.Book.orderly b.value
+      | Table b ↦ T.Book.orderly b.value
     ] };
 
     fn len(&self) -> usize {

@@ -2,145 +2,152 @@
 ghost use Rattle.std.specs.Prelude.{◌≡◌, IfOk, string_bytes};
 ghost use Rattle.book.specs.Audits.{audited};
 ghost use Rattle.book.specs.Shelves.{put_in, written_in, removed_from, read_in, find as found_in, next as next_in};
-ghost use Rattle.childsa.specs.Told.{refusal_text, answer_text, told, spi_text, read_text, rows_text, finding_text};
+ghost use Rattle.childsa.specs.Told.{told, spi_text, read_text, rows_text, finding_text};
 
 use crate::any_book::AnyBook;
+use crate::commands::Line;
 use crate::desk::Desk;
 use crate::row_text::{read_row, row_text};
-use crate::words::{Words, side_name};
+use crate::told::{Refused, Told};
+use crate::words::Words;
 use crate::wrong::{Stop, Wrong};
-use book::audit::Finding;
+use book::Book;
+use book::audit::Alone;
 use book::row::Row;
-use book::{Book, BookRefusal};
 use nonce::side::Side;
 use ordered::OrderedBook;
 use std::alloc::{AllocError, Global};
 use table::TableBook;
 
 /// `book KIND BOOK`: starts a book with no rows.
-pub(crate) fn start(desk: &mut Desk, heap: Global, words: &mut Words<'_>) -> Result<String, Stop> {
+pub(crate) fn start(line: &mut Line<'_>) -> Result<String, Stop> {
+    let (kind, book) = read_kind(&mut line.words)?;
+    let side = line.words.side()?;
+    line.words.end()?;
+    line.desk.start(side, book);
+    Ok(format!(in line.words.heap; "book {side} {kind}")?)
+}
+
+/// The name of a kind, and a book of that kind with no rows.
+fn read_kind(words: &mut Words<'_>) -> Result<(&'static str, AnyBook), Stop> {
     let expected = "`ordered` or `table`";
-    let (kind, book) = match words.word(expected)? {
-        "ordered" => (
-            "ordered",
-            AnyBook::Ordered(Box::new(heap, OrderedBook::new())?),
-        ),
-        "table" => ("table", AnyBook::Table(Box::new(heap, TableBook::new())?)),
-        word => return Err(words.unexpected(word, expected)),
-    };
-    let side = words.side()?;
-    words.end()?;
-    desk.start(side, book);
-    let name = side_name(side);
-    Ok(format!(in heap; "book {name} {kind}")?)
+    match words.word(expected)? {
+        "ordered" => {
+            let book = Box::new(words.heap, OrderedBook::new())?;
+            Ok(("ordered", AnyBook::Ordered(book)))
+        }
+        "table" => {
+            let book = Box::new(words.heap, TableBook::new())?;
+            Ok(("table", AnyBook::Table(book)))
+        }
+        word => words.unexpected(word, expected),
+    }
 }
 
 /// `put BOOK ROW`: adds a row.
-pub(crate) fn put(desk: &mut Desk, heap: Global, words: &mut Words<'_>) -> Result<String, Stop> {
-    let name = words.side()?;
-    let row = read_row(words)?;
-    words.end()?;
-    match desk.book_mut(name) {
-        Some(book) => Ok(put_in(heap, book, row)?),
-        None => Err(Stop::Wrong(Wrong::NoBook(name))),
-    }
+pub(crate) fn put(line: &mut Line<'_>) -> Result<String, Stop> {
+    change(line, read_row, put_in)
 }
 
 /// `write BOOK ROW`: puts a row into the place of the one that has its own SPI.
-pub(crate) fn write(desk: &mut Desk, heap: Global, words: &mut Words<'_>) -> Result<String, Stop> {
-    let name = words.side()?;
-    let row = read_row(words)?;
-    words.end()?;
-    match desk.book_mut(name) {
-        Some(book) => Ok(write_in(heap, book, row)?),
-        None => Err(Stop::Wrong(Wrong::NoBook(name))),
-    }
+pub(crate) fn write(line: &mut Line<'_>) -> Result<String, Stop> {
+    change(line, read_row, write_in)
 }
 
 /// `drop BOOK OWN`: removes the row of an own SPI.
-pub(crate) fn remove(desk: &mut Desk, heap: Global, words: &mut Words<'_>) -> Result<String, Stop> {
-    let name = words.side()?;
-    let own = words.number("an own SPI")?;
-    words.end()?;
-    match desk.book_mut(name) {
-        Some(book) => Ok(remove_from(heap, book, own)?),
-        None => Err(Stop::Wrong(Wrong::NoBook(name))),
-    }
+pub(crate) fn remove(line: &mut Line<'_>) -> Result<String, Stop> {
+    change(line, read_own, remove_from)
 }
 
 /// `read BOOK OWN`: the row of an own SPI.
-pub(crate) fn read(desk: &Desk, heap: Global, words: &mut Words<'_>) -> Result<String, Stop> {
-    let name = words.side()?;
-    let own = words.number("an own SPI")?;
-    words.end()?;
-    let book = book_of(desk, name)?;
-    Ok(read_text(heap, book, own)?)
+pub(crate) fn read(line: &mut Line<'_>) -> Result<String, Stop> {
+    ask(line, read_own, read_text)
 }
 
 /// `find BOOK PEER`: the lowest own SPI of a row that has a peer SPI and is not Opening.
-pub(crate) fn find(desk: &Desk, heap: Global, words: &mut Words<'_>) -> Result<String, Stop> {
-    let name = words.side()?;
-    let peer = words.number("a peer SPI")?;
-    words.end()?;
-    let book = book_of(desk, name)?;
-    Ok(find_text(heap, book, peer)?)
+pub(crate) fn find(line: &mut Line<'_>) -> Result<String, Stop> {
+    ask(line, |words| words.number("a peer SPI"), find_text)
 }
 
 /// `next BOOK OWN`: the lowest own SPI above one.
-pub(crate) fn next(desk: &Desk, heap: Global, words: &mut Words<'_>) -> Result<String, Stop> {
-    let name = words.side()?;
-    let own = words.number("an own SPI")?;
-    words.end()?;
-    let book = book_of(desk, name)?;
-    Ok(next_text(heap, book, own)?)
+pub(crate) fn next(line: &mut Line<'_>) -> Result<String, Stop> {
+    ask(line, read_own, next_text)
 }
 
 /// `rows BOOK`: how many rows there are, and how many there can be.
-pub(crate) fn rows(desk: &Desk, heap: Global, words: &mut Words<'_>) -> Result<String, Stop> {
-    let name = words.side()?;
-    words.end()?;
-    let book = book_of(desk, name)?;
-    Ok(rows_text(heap, book)?)
+pub(crate) fn rows(line: &mut Line<'_>) -> Result<String, Stop> {
+    ask(line, |_| Ok(()), |heap, book, _| rows_text(heap, book))
 }
 
 /// `audit`: the first row of either book that has no mirror in the other.
-pub(crate) fn audit(desk: &Desk, heap: Global, words: &mut Words<'_>) -> Result<String, Stop> {
-    words.end()?;
-    let a = book_of(desk, Side::A)?;
-    let b = book_of(desk, Side::B)?;
-    Ok(audit_text(heap, a, b)?)
+pub(crate) fn audit(line: &mut Line<'_>) -> Result<String, Stop> {
+    line.words.end()?;
+    let a = book_of(line.desk, Side::A)?;
+    let b = book_of(line.desk, Side::B)?;
+    Ok(audit_text(line.words.heap, a, b)?)
 }
 
 /// The book of a name.
-fn book_of(desk: &Desk, name: Side) -> Result<&AnyBook, Stop> {
-    match desk.book(name) {
-        Some(book) => Ok(book),
-        None => Err(Stop::Wrong(Wrong::NoBook(name))),
-    }
+fn book_of(desk: &Desk, name: Side) -> Result<&AnyBook, Wrong> {
+    desk.book(name).ok_or(Wrong::NoBook(name))
+}
+
+/// An own SPI, to find a row by.
+fn read_own(words: &mut Words<'_>) -> Result<u32, Stop> {
+    words.number("an own SPI")
+}
+
+/// Changes the book that is named by what is read behind its name, and tells the answer.
+fn change<'a, X, R, F>(line: &mut Line<'a>, read: R, step: F) -> Result<String, Stop>
+where
+    X: Drop,
+    R: FnOnce(&mut Words<'a>) -> Result<X, Stop>,
+    F: FnOnce(Global, &mut AnyBook, X) -> Result<String, AllocError>,
+    requires reads { R.IsAlwaysCallable read }
+    requires steps { F.IsAlwaysCallable step }
+{
+    let name = line.words.side()?;
+    let behind = read(&mut line.words)?;
+    line.words.end()?;
+    let book = line.desk.book_mut(name).ok_or(Wrong::NoBook(name))?;
+    Ok(step(line.words.heap, book, behind)?)
+}
+
+/// What a book answers to what is read behind its name. Apart from `change`, so that a question takes the book as it is.
+fn ask<'a, X, R, F>(line: &mut Line<'a>, read: R, question: F) -> Result<String, Stop>
+where
+    X: Drop,
+    R: FnOnce(&mut Words<'a>) -> Result<X, Stop>,
+    F: FnOnce(Global, &AnyBook, X) -> Result<String, AllocError>,
+    requires reads { R.IsAlwaysCallable read }
+    requires asks { F.IsAlwaysCallable question }
+{
+    let name = line.words.side()?;
+    let behind = read(&mut line.words)?;
+    line.words.end()?;
+    let book = book_of(line.desk, name)?;
+    Ok(question(line.words.heap, book, behind)?)
 }
 
 /// Adds a row, and tells the answer.
 fn put_in<B: Book>(heap: Global, book: &mut B, row: Row) -> Result<String, AllocError>
     ensures { IfOk result (λ s. (string_bytes s, B.Book.shelf book.new) ≡ told (put_in (B.Book.shelf book.old) row)) }
 {
-    let answer = book.put(row);
-    answer_text(heap, answer)
+    Told(book.put(row)).to_string(heap)
 }
 
 /// Puts a row into the place of the one that has its own SPI, and tells the answer.
 fn write_in<B: Book>(heap: Global, book: &mut B, row: Row) -> Result<String, AllocError>
     ensures { IfOk result (λ s. (string_bytes s, B.Book.shelf book.new) ≡ told (written_in (B.Book.shelf book.old) row)) }
 {
-    let answer = book.write(row);
-    answer_text(heap, answer)
+    Told(book.write(row)).to_string(heap)
 }
 
 /// Removes the row of an own SPI, and tells the answer.
 fn remove_from<B: Book>(heap: Global, book: &mut B, own: u32) -> Result<String, AllocError>
     ensures { IfOk result (λ s. (string_bytes s, B.Book.shelf book.new) ≡ told (removed_from (B.Book.shelf book.old) own)) }
 {
-    let answer = book.remove(own);
-    answer_text(heap, answer)
+    Told(book.remove(own)).to_string(heap)
 }
 
 /// The row of an own SPI as text.
@@ -149,7 +156,7 @@ fn read_text<B: Book>(heap: Global, book: &B, own: u32) -> Result<String, AllocE
 {
     match book.read(own) {
         Ok(row) => row_text(heap, &row),
-        Err(refusal) => refusal_text(heap, refusal),
+        Err(refusal) => Refused(refusal).to_string(heap),
     }
 }
 
@@ -157,14 +164,14 @@ fn read_text<B: Book>(heap: Global, book: &B, own: u32) -> Result<String, AllocE
 fn find_text<B: Book>(heap: Global, book: &B, peer: u32) -> Result<String, AllocError>
     ensures { IfOk result (λ s. string_bytes s ≡ spi_text (found_in (B.Book.shelf book.now).rows peer)) }
 {
-    spi_text(heap, book.find(peer))
+    Told(book.find(peer)).to_string(heap)
 }
 
 /// The own SPI that comes next, as text.
 fn next_text<B: Book>(heap: Global, book: &B, own: u32) -> Result<String, AllocError>
     ensures { IfOk result (λ s. string_bytes s ≡ spi_text (next_in (B.Book.shelf book.now).rows own)) }
 {
-    spi_text(heap, book.next(own))
+    Told(book.next(own)).to_string(heap)
 }
 
 /// How many rows there are and can be, as text.
@@ -184,46 +191,15 @@ fn audit_text<P: Book, Q: Book>(heap: Global, a: &P, b: &Q) -> Result<String, Al
 }
 
 /// What is printed of a finding.
-fn finding_text(heap: Global, finding: Finding) -> Result<String, AllocError>
+fn finding_text(heap: Global, finding: Option<Alone>) -> Result<String, AllocError>
     ensures { IfOk result (λ s. string_bytes s ≡ finding_text finding) }
 {
-    match finding {
-        Finding::AllMirrored => String::from_str(heap, "all rows have their mirror"),
-        Finding::AloneInA(row) => {
-            let row = row_text(heap, &row)?;
-            format!(in heap; "no mirror in B: {row}")
-        }
-        Finding::AloneInB(row) => {
-            let row = row_text(heap, &row)?;
-            format!(in heap; "no mirror in A: {row}")
-        }
-    }
-}
-
-/// What is printed of the answer to a change.
-fn answer_text(heap: Global, answer: Result<(), BookRefusal>) -> Result<String, AllocError>
-    ensures { IfOk result (λ s. string_bytes s ≡ answer_text answer) }
-{
-    match answer {
-        Ok(()) => String::from_str(heap, "done"),
-        Err(refusal) => refusal_text(heap, refusal),
-    }
-}
-
-/// What is printed of a refusal.
-fn refusal_text(heap: Global, refusal: BookRefusal) -> Result<String, AllocError>
-    ensures { IfOk result (λ s. string_bytes s ≡ refusal_text refusal) }
-{
-    let number = refusal.number();
-    format!(in heap; "refused {number}")
-}
-
-/// An own SPI as text, where there is one.
-fn spi_text(heap: Global, own: Option<u32>) -> Result<String, AllocError>
-    ensures { IfOk result (λ s. string_bytes s ≡ spi_text own) }
-{
-    match own {
-        Some(own) => own.to_string(heap),
-        None => String::from_str(heap, "none"),
+    let Some(Alone { side, row }) = finding else {
+        return String::from_str(heap, "all rows have their mirror");
+    };
+    let row = row_text(heap, &row)?;
+    match side {
+        Side::A => format!(in heap; "no mirror in B: {row}"),
+        Side::B => format!(in heap; "no mirror in A: {row}"),
     }
 }

@@ -1,6 +1,7 @@
 //! The bottom of a channel.
+ghost use Rattle.bottoms.specs.Holding.{holding_sound};
 ghost use Rattle.childsa.specs.Piles.{bottom_means};
-ghost use Rattle.childsa.specs.Through.{bottom_sound};
+ghost use Rattle.childsa.specs.declared.bottom.Bottom.TheVariants.{Queue as IsQueue, Stack as IsStack, Trace as IsTrace};
 
 use bottoms::queue::Queue;
 use bottoms::stack::Stack;
@@ -9,7 +10,8 @@ use channel::channel::Channel;
 use channel::sent::Sent;
 use nonce::side::Side;
 
-/// A channel with no layer, whose kind the script chooses.
+/// A channel with no layer, whose kind the script chooses. An enum, and each method a match: no function may make a
+/// `dyn Channel` and hand it out.
 #[derive(Drop)]
 pub(crate) enum Bottom {
     Queue(Queue),
@@ -20,7 +22,11 @@ pub(crate) enum Bottom {
 impl Channel for Bottom {
     ghost meaning = { bottom_means };
 
-    ghost sound = { λ c. bottom_sound c };
+    ghost sound = { elim [
+      | IsQueue c ↦ holding_sound 32 c.lanes
+      | IsStack c ↦ holding_sound 32 c.lanes
+      | IsTrace c ↦ holding_sound 0 c.lanes
+    ] };
 
     fn longest(&self) -> usize {
         match self {

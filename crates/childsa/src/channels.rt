@@ -4,9 +4,10 @@ ghost use Rattle.childsa.specs.Piles.{BottomMade};
 ghost use Rattle.childsa.specs.Told.{sent_text, ReceivedText};
 
 use crate::bottom::Bottom;
-use crate::desk::Desk;
-use crate::hex::to_hex;
-use crate::pile::Pile;
+use crate::commands::Line;
+use crate::digits::to_hex;
+use crate::pile;
+use crate::told::{Refused, Told};
 use crate::words::Words;
 use crate::wrong::{Stop, Wrong};
 use bottoms::queue::Queue;
@@ -16,68 +17,75 @@ use bottoms::trace::Trace;
 use channel::channel::Channel;
 use channel::sent::Sent;
 use nonce::side::Side;
-use numbered::Numbered;
 use std::alloc::{AllocError, Global};
+use std::fmt;
 
-/// The kind of a bottom.
+/// The bottom that is asked for; the fates of a trace are as they are written.
 #[derive(Clone, Copy)]
-enum Kind {
-    Queue,
-    Stack,
-    Trace,
+enum Wanted<'a> {
+    Queue { longest: u32 },
+    Stack { longest: u32 },
+    Trace { longest: u32, fates: &'a str },
+}
+
+impl fmt::Display for Wanted<'_> {
+    fn fmt<W: fmt::Write>(&self, f: &mut fmt::Formatter<W>) -> fmt::Result {
+        match self {
+            Wanted::Queue { longest } => write!(f, "queue {longest}"),
+            Wanted::Stack { longest } => write!(f, "stack {longest}"),
+            Wanted::Trace { longest, fates } => write!(f, "trace {longest} {fates}"),
+        }
+    }
+}
+
+/// How many markers are asked for over the bottom, at most three.
+#[derive(Clone, Copy)]
+struct Markers(usize);
+
+impl fmt::Display for Markers {
+    fn fmt<W: fmt::Write>(&self, f: &mut fmt::Formatter<W>) -> fmt::Result {
+        for _ in 0..self.0 {
+            write!(f, " marker")?;
+        }
+        Ok(())
+    }
 }
 
 /// `channel BOTTOM MARKERS`: makes the channel.
-pub(crate) fn make(desk: &mut Desk, heap: Global, words: &mut Words<'_>) -> Result<String, Stop> {
-    let kind = read_kind(words)?;
-    let longest = words.number("the most octets of a datagram")?;
-    let fates = read_fates(kind, words)?;
-    let markers = read_markers(words)?;
-    match new_bottom(heap, kind, longest as usize, letters_of(fates)) {
+pub(crate) fn make(line: &mut Line<'_>) -> Result<String, Stop> {
+    let heap = line.words.heap;
+    let wanted = read_wanted(&mut line.words)?;
+    let markers = read_markers(&mut line.words)?;
+    match new_bottom(heap, wanted) {
         Ok(bottom) => {
-            let pile = Pile::over(bottom, markers);
+            let pile = pile::over(bottom, markers.0);
             let most = pile.longest();
-            desk.channel = Some(pile);
-            let bottom = bottom_text(heap, kind, longest, fates)?;
-            let layers = markers_text(markers);
-            Ok(format!(in heap; "channel {bottom}{layers} longest {most}")?)
+            line.desk.channel = Some(pile);
+            Ok(format!(in heap; "channel {wanted}{markers} longest {most}")?)
         }
-        Err(MakeRefusal::NoMemory) => Err(Stop::Memory),
-        Err(refusal) => {
-            let number = refusal.number();
-            Ok(format!(in heap; "refused {number}")?)
-        }
+        Err(MakeRefusal::NoMemory) => Err(AllocError.into()),
+        Err(refusal) => Ok(Refused(refusal).to_string(heap)?),
     }
 }
 
 /// `send END HEX`: sends a datagram to an end.
-pub(crate) fn send(desk: &mut Desk, heap: Global, words: &mut Words<'_>) -> Result<String, Stop> {
-    let to = words.side()?;
-    let datagram = words.datagram()?;
-    words.end()?;
-    match &mut desk.channel {
-        Some(channel) => {
-            let sent = channel.send(to, datagram.as_slice());
-            Ok(sent_name(sent).to_string(heap)?)
-        }
-        None => Err(Stop::Wrong(Wrong::NoChannel)),
-    }
+pub(crate) fn send(line: &mut Line<'_>) -> Result<String, Stop> {
+    let to = line.words.side()?;
+    let datagram = line.words.datagram()?;
+    line.words.end()?;
+    let channel = line.desk.channel.as_mut().ok_or(Wrong::NoChannel)?;
+    let sent = channel.send(to, datagram.as_slice());
+    Ok(Told(sent).to_string(line.words.heap)?)
 }
 
 /// `receive END` and `receive END N`: receives at an end, into a buffer of 256 or of N octets.
-pub(crate) fn receive(
-    desk: &mut Desk,
-    heap: Global,
-    words: &mut Words<'_>,
-) -> Result<String, Stop> {
-    let at = words.side()?;
-    let len = read_length(words)?;
-    words.end()?;
+pub(crate) fn receive(line: &mut Line<'_>) -> Result<String, Stop> {
+    let at = line.words.side()?;
+    let len = read_length(&mut line.words)?;
+    line.words.end()?;
     let mut room = [0u8; 256];
-    match &mut desk.channel {
-        Some(channel) => Ok(received_text(heap, channel, at, &mut room[0..len])?),
-        None => Err(Stop::Wrong(Wrong::NoChannel)),
-    }
+    let channel = line.desk.channel.as_mut().ok_or(Wrong::NoChannel)?;
+    Ok(received_text(line.words.heap, channel, at, &mut room[0..len])?)
 }
 
 /// What is printed of a receive into a buffer.
@@ -95,68 +103,40 @@ fn received_text<C: Channel>(
     }
 }
 
-/// What is printed of a send.
-fn sent_name(sent: Sent) -> &'static str
-    ensures { result.now ≡ sent_text sent }
-{
-    match sent {
-        Sent::Taken => "taken",
-        Sent::NotTaken => "not taken",
-    }
-}
-
 /// A bottom in which nothing waits.
-fn new_bottom(
-    heap: Global,
-    kind: Kind,
-    longest: usize,
-    letters: &[u8],
-) -> Result<Bottom, MakeRefusal>
-    ensures { BottomMade kind longest result }
+fn new_bottom(heap: Global, wanted: Wanted<'_>) -> Result<Bottom, MakeRefusal>
+    ensures { BottomMade wanted.entry result }
 {
-    match kind {
-        Kind::Queue => Ok(Bottom::Queue(Queue::new(longest)?)),
-        Kind::Stack => Ok(Bottom::Stack(Stack::new(longest)?)),
-        Kind::Trace => Ok(Bottom::Trace(Trace::new(heap, longest, letters)?)),
+    match wanted {
+        Wanted::Queue { longest } => Queue::new(longest as usize).map(Bottom::Queue),
+        Wanted::Stack { longest } => Stack::new(longest as usize).map(Bottom::Stack),
+        Wanted::Trace { longest, fates } => {
+            Trace::new(heap, longest as usize, letters_of(fates)).map(Bottom::Trace)
+        }
     }
 }
 
-/// What is printed of a bottom.
-fn bottom_text(heap: Global, kind: Kind, longest: u32, fates: &str) -> Result<String, AllocError> {
-    match kind {
-        Kind::Queue => format!(in heap; "queue {longest}"),
-        Kind::Stack => format!(in heap; "stack {longest}"),
-        Kind::Trace => format!(in heap; "trace {longest} {fates}"),
-    }
-}
-
-/// What is printed of markers, at most three.
-fn markers_text(markers: usize) -> &'static str {
-    match markers {
-        0 => "",
-        1 => " marker",
-        2 => " marker marker",
-        _ => " marker marker marker",
-    }
-}
-
-/// The name of a kind.
-fn read_kind(words: &mut Words<'_>) -> Result<Kind, Stop> {
+/// `queue N`, `stack N` or `trace N FATES`.
+fn read_wanted<'a>(words: &mut Words<'a>) -> Result<Wanted<'a>, Stop> {
     let expected = "`queue`, `stack` or `trace`";
     match words.word(expected)? {
-        "queue" => Ok(Kind::Queue),
-        "stack" => Ok(Kind::Stack),
-        "trace" => Ok(Kind::Trace),
-        word => Err(words.unexpected(word, expected)),
+        "queue" => Ok(Wanted::Queue {
+            longest: read_longest(words)?,
+        }),
+        "stack" => Ok(Wanted::Stack {
+            longest: read_longest(words)?,
+        }),
+        "trace" => Ok(Wanted::Trace {
+            longest: read_longest(words)?,
+            fates: words.word("the fates of what is sent, or `-` for none")?,
+        }),
+        word => words.unexpected(word, expected),
     }
 }
 
-/// The fates of a trace, as they are written; a queue and a stack have none.
-fn read_fates<'a>(kind: Kind, words: &mut Words<'a>) -> Result<&'a str, Stop> {
-    match kind {
-        Kind::Trace => words.word("the fates of what is sent, or `-` for none"),
-        _ => Ok(""),
-    }
+/// The most octets of a datagram.
+fn read_longest(words: &mut Words<'_>) -> Result<u32, Stop> {
+    words.number("the most octets of a datagram")
 }
 
 /// The letters of the fates; `-` stands for none.
@@ -167,31 +147,29 @@ fn letters_of(fates: &str) -> &[u8] {
     }
 }
 
-/// How many times `marker` stands before the end of the line, at most three.
-fn read_markers(words: &mut Words<'_>) -> Result<usize, Stop> {
+/// `marker`, up to three times before the end of the line.
+fn read_markers(words: &mut Words<'_>) -> Result<Markers, Stop> {
     for markers in 0..3 {
         match words.next() {
             Some("marker") => {}
-            Some(word) => return Err(words.unexpected(word, "`marker` or the end of the line")),
-            None => return Ok(markers),
+            Some(word) => return words.unexpected(word, "`marker` or the end of the line"),
+            None => return Ok(Markers(markers)),
         }
     }
     words.end()?;
-    Ok(3)
+    Ok(Markers(3))
 }
 
 /// The length of a buffer, or 256 where none is given.
 fn read_length(words: &mut Words<'_>) -> Result<usize, Stop>
     ensures { IfOk result (λ n. n ≤ 256) }
 {
-    match words.next() {
-        Some(word) => {
-            let octets = words.number_from(word)?;
-            if octets > 256 {
-                return Err(Stop::Wrong(Wrong::BufferLength(octets)));
-            }
-            Ok(octets as usize)
-        }
-        None => Ok(256),
+    let Some(word) = words.next() else {
+        return Ok(256);
+    };
+    let octets = words.number_from(word)?;
+    if octets > 256 {
+        return Err(Wrong::BufferLength(octets).into());
     }
+    Ok(octets as usize)
 }

@@ -6,40 +6,43 @@ use crate::wrong::{Stop, Wrong};
 use crate::{books, channels, messages};
 use std::alloc::Global;
 
-/// The answer to a line, or nothing where it has no command.
-pub(crate) fn answer(desk: &mut Desk, heap: Global, line: &str) -> Result<Option<String>, Stop> {
-    let mut words = Words::new(heap, line);
-    match words.next() {
-        Some(command) => Ok(Some(perform(desk, heap, command, &mut words)?)),
-        None => Ok(None),
-    }
+/// A line that is being answered: the desk that it works on, and its words.
+#[derive(Drop)]
+pub(crate) struct Line<'a> {
+    pub(crate) desk: &'a mut Desk,
+    pub(crate) words: Words<'a>,
 }
 
-/// The answer to a command with the words behind it.
-fn perform(
-    desk: &mut Desk,
-    heap: Global,
-    command: &str,
-    words: &mut Words<'_>,
-) -> Result<String, Stop> {
+/// The answer to a line, or nothing where it has no command.
+pub(crate) fn answer(desk: &mut Desk, heap: Global, text: &str) -> Result<Option<String>, Stop> {
+    let mut words = Words::new(heap, text);
+    let Some(command) = words.next() else {
+        return Ok(None);
+    };
+    let mut line = Line { desk, words };
+    perform(&mut line, command).map(Some)
+}
+
+/// The answer to a command with the words behind it. A match is the plainest table from a word to a function.
+fn perform(line: &mut Line<'_>, command: &str) -> Result<String, Stop> {
     match command {
-        "decode" => messages::decode(heap, words),
-        "encode" => messages::encode(heap, words),
-        "lower" => messages::lower(heap, words),
-        "loser" => messages::loser(heap, words),
-        "book" => books::start(desk, heap, words),
-        "put" => books::put(desk, heap, words),
-        "read" => books::read(desk, heap, words),
-        "write" => books::write(desk, heap, words),
-        "drop" => books::remove(desk, heap, words),
-        "find" => books::find(desk, heap, words),
-        "next" => books::next(desk, heap, words),
-        "rows" => books::rows(desk, heap, words),
-        "audit" => books::audit(desk, heap, words),
-        "channel" => channels::make(desk, heap, words),
-        "send" => channels::send(desk, heap, words),
-        "receive" => channels::receive(desk, heap, words),
-        "help" => help(heap, words),
-        _ => Err(Stop::Wrong(Wrong::Command(command.to_string(heap)?))),
+        "decode" => messages::decode(&mut line.words),
+        "encode" => messages::encode(&mut line.words),
+        "lower" => messages::lower(&mut line.words),
+        "loser" => messages::loser(&mut line.words),
+        "book" => books::start(line),
+        "put" => books::put(line),
+        "read" => books::read(line),
+        "write" => books::write(line),
+        "drop" => books::remove(line),
+        "find" => books::find(line),
+        "next" => books::next(line),
+        "rows" => books::rows(line),
+        "audit" => books::audit(line),
+        "channel" => channels::make(line),
+        "send" => channels::send(line),
+        "receive" => channels::receive(line),
+        "help" => help(&mut line.words),
+        _ => Err(Wrong::Command(command.to_string(line.words.heap)?).into()),
     }
 }

@@ -8,7 +8,7 @@ use crate::pile::Pile;
 use nonce::side::Side;
 
 /// The books A and B, and the channel, once they are made.
-#[derive(Drop)]
+#[derive(Default, Drop)]
 pub(crate) struct Desk {
     a: Option<AnyBook>,
     b: Option<AnyBook>,
@@ -20,11 +20,7 @@ impl Desk {
     pub(crate) fn new() -> Desk
         ensures { result ≡ empty_desk }
     {
-        Desk {
-            a: None,
-            b: None,
-            channel: None,
-        }
+        Desk::default()
     }
 
     /// Puts a book there under a name, in the place of one that had it.
@@ -47,7 +43,7 @@ impl Desk {
         }
     }
 
-    /// The book of a name, to change it.
+    /// The book of a name, to change it: beside `book`, as `as_mut` is beside `as_ref`.
     pub(crate) fn book_mut(&mut self, name: Side) -> Option<&mut AnyBook> {
         match name {
             Side::A => self.a.as_mut(),

@@ -1,39 +1,29 @@
 //! What ends the program before its script does.
+use std::alloc::AllocError;
 use std::{fmt, io};
+use thiserror::Error;
 
 /// Why the program ends early.
-#[derive(Drop)]
+#[derive(Drop, Error)]
 pub(crate) enum Fault {
-    /// There is no memory left.
-    Memory,
-    /// There is more than one argument.
+    #[error("out of memory")]
+    Memory(#[from(alloc)] AllocError),
+    #[error("at most one argument is taken, the name of a script")]
     Usage,
-    /// The arguments cannot be read.
+    #[error("the arguments cannot be read: {0}")]
     Arguments(io::Error),
-    /// The script cannot be opened.
+    #[error("the script `{name}` cannot be opened: {error}")]
     Open { name: String, error: io::Error },
-    /// A line of the script cannot be read, or is no UTF-8.
+    /// A line is no UTF-8, or the file fails.
+    #[error("line {line} of the script cannot be read: {error}")]
     Read { line: u64, error: io::Error },
-    /// An answer cannot be printed.
+    #[error("an answer cannot be printed: {0}")]
     Print(io::Error),
 }
 
-/// What is told of a fault, on the standard error.
+/// What the runtime tells of a fault that ends the program is its message.
 impl fmt::Debug for Fault {
     fn fmt<W: fmt::Write>(&self, f: &mut fmt::Formatter<W>) -> fmt::Result {
-        match self {
-            Fault::Memory => write!(f, "out of memory"),
-            Fault::Usage => write!(f, "at most one argument is taken, the name of a script"),
-            Fault::Arguments(error) => write!(f, "the arguments cannot be read: {error}"),
-            Fault::Open { name, error } => write!(
-                f,
-                "the script `{name}` cannot be opened: {error}"
-            ),
-            Fault::Read { line, error } => write!(
-                f,
-                "line {line} of the script cannot be read: {error}"
-            ),
-            Fault::Print(error) => write!(f, "an answer cannot be printed: {error}"),
-        }
+        fmt::Display::fmt(self, f)
     }
 }

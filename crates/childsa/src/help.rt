@@ -1,7 +1,6 @@
 //! The commands in short.
 use crate::words::Words;
 use crate::wrong::Stop;
-use std::alloc::Global;
 
 const TEXT: &str = "\
 decode HEX           the message that these octets are, or the number of the check that they fail; - is no octets
@@ -31,7 +30,7 @@ NONCE is             16 to 32 octets in hexadecimal digits; one octet alone stan
 # starts a comment";
 
 /// `help`: the commands, with a short line for each.
-pub(crate) fn help(heap: Global, words: &mut Words<'_>) -> Result<String, Stop> {
+pub(crate) fn help(words: &mut Words<'_>) -> Result<String, Stop> {
     words.end()?;
-    Ok(TEXT.to_string(heap)?)
+    Ok(TEXT.to_string(words.heap)?)
 }

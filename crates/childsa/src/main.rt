@@ -9,18 +9,20 @@ mod bottom;
 mod channels;
 mod commands;
 mod desk;
+mod digits;
 mod fault;
 mod help;
-mod hex;
 mod messages;
 mod pile;
 mod row_text;
+mod told;
 mod words;
 mod wrong;
 
 use commands::answer;
 use desk::Desk;
 use fault::Fault;
+use std::alloc::AllocError;
 use std::io::{BufRead, BufReader, Read};
 use std::{env, fs};
 use wrong::Stop;
@@ -31,50 +33,38 @@ fn respond(rt: &HostRuntime, desk: &mut Desk, number: u64, line: &str) -> Result
         Ok(Some(text)) => rt.println(text),
         Ok(None) => Ok(()),
         Err(Stop::Wrong(wrong)) => println!(rt; "line {number}: {wrong}"),
-        Err(Stop::Memory) => return Err(Fault::Memory),
+        Err(Stop::Memory(error)) => return Err(error.into()),
     };
-    match printed {
-        Ok(()) => Ok(()),
-        Err(error) => Err(Fault::Print(error)),
-    }
+    printed.map_err(Fault::Print)
 }
 
 /// Answers each line of a script in turn.
 fn answer_all<R: BufRead + Drop>(rt: &HostRuntime, script: R) -> Result<(), Fault> {
     let mut desk = Desk::new();
-    let mut number: u64 = 0;
-    for line in script.lines(rt.alloc()) {
-        number = number.saturating_add(1);
-        match line {
-            Ok(text) => respond(rt, &mut desk, number, text.as_str())?,
-            Err(error) => return Err(Fault::Read {
-                line: number,
-                error,
-            }),
-        }
+    for (number, line) in (1..=u64::MAX).zip(script.lines(rt.alloc())) {
+        let line = line.map_err(|error| Fault::Read {
+            line: number,
+            error,
+        })?;
+        respond(rt, &mut desk, number, line.as_str())?;
     }
     Ok(())
 }
 
 /// The name of the script's file, where the arguments name one.
 fn script_name(rt: &HostRuntime) -> Result<Option<String>, Fault> {
-    let mut args = match env::args(rt) {
-        Ok(args) => args.skip(1),
-        Err(error) => return Err(Fault::Arguments(error)),
-    };
+    let mut args = env::args(rt).map_err(Fault::Arguments)?.skip(1);
     let name = args.next();
-    match args.next() {
-        Some(_) => Err(Fault::Usage),
-        None => Ok(name),
+    if args.next().is_some() {
+        return Err(Fault::Usage);
     }
+    Ok(name)
 }
 
 /// Answers a script that is read through a buffer.
 fn answer_buffered<R: Read + Drop>(rt: &HostRuntime, script: R) -> Result<(), Fault> {
-    match BufReader::new(rt.alloc(), script) {
-        Ok(reader) => answer_all(rt, reader),
-        Err(_) => Err(Fault::Memory),
-    }
+    let reader = BufReader::new(rt.alloc(), script).map_err(|_| Fault::Memory(AllocError))?;
+    answer_all(rt, reader)
 }
 
 /// Answers the script that the arguments name.
@@ -82,10 +72,8 @@ fn run(rt: &HostRuntime) -> Result<(), Fault> {
     let Some(name) = script_name(rt)? else {
         return answer_buffered(rt, rt.stdin());
     };
-    match fs::open(rt, name.as_str()) {
-        Ok(file) => answer_buffered(rt, file),
-        Err(error) => Err(Fault::Open { name, error }),
-    }
+    let file = fs::open(rt, name.as_str()).map_err(|error| Fault::Open { name, error })?;
+    answer_buffered(rt, file)
 }
 
 fn main(rt: HostRuntime) -> Result<(), Fault> {

@@ -1,56 +1,55 @@
-//! The commands on messages and nonces.
+//! The commands on messages and nonces. A message holds octets, whose text wants memory: so functions make its text, and
+//! no `Display`.
 ghost use Rattle.std.specs.Prelude.{◌≡◌, IfOk, string_bytes};
 ghost use Rattle.wire.specs.Messages.{octets_of};
 ghost use Rattle.nonce.specs.Order.{lower_of, loser_in};
 ghost use Rattle.childsa.specs.Hex.{hex_text};
 ghost use Rattle.nonce.specs.Names.{side_text};
 
-use crate::hex::to_hex;
-use crate::words::{Words, side_name};
+use crate::digits::to_hex;
+use crate::told::Refused;
+use crate::words::Words;
 use crate::wrong::{Stop, Wrong};
 use nonce::Nonce;
 use nonce::order::{Exchanged, compare};
-use numbered::Numbered;
 use std::alloc::{AllocError, Global};
+use wire::header::Direction;
 use wire::message::{Body, Failure, Message, Request, Response};
 
 /// As many octets as the longest message has.
 const LONGEST: usize = 160;
 
 /// `decode HEX`: the message that the octets are, or the number of the check that they fail.
-pub(crate) fn decode(heap: Global, words: &mut Words<'_>) -> Result<String, Stop> {
+pub(crate) fn decode(words: &mut Words<'_>) -> Result<String, Stop> {
     let octets = words.datagram()?;
     words.end()?;
     match wire::decode::decode(octets.as_slice()) {
-        Ok(message) => Ok(message_text(heap, &message)?),
-        Err(refusal) => {
-            let number = refusal.number();
-            Ok(format!(in heap; "refused {number}")?)
-        }
+        Ok(message) => Ok(message_text(words.heap, &message)?),
+        Err(refusal) => Ok(Refused(refusal).to_string(words.heap)?),
     }
 }
 
 /// `encode MESSAGE`: the octets of the message.
-pub(crate) fn encode(heap: Global, words: &mut Words<'_>) -> Result<String, Stop> {
+pub(crate) fn encode(words: &mut Words<'_>) -> Result<String, Stop> {
     let message = read_message(words)?;
     words.end()?;
-    octets_text(heap, &message)
+    octets_text(words.heap, &message)
 }
 
 /// `lower NONCE NONCE`: the lower of the two.
-pub(crate) fn lower(heap: Global, words: &mut Words<'_>) -> Result<String, Stop> {
+pub(crate) fn lower(words: &mut Words<'_>) -> Result<String, Stop> {
     let first = words.nonce("a nonce")?;
     let second = words.nonce("a second nonce")?;
     words.end()?;
-    Ok(lower_text(heap, &first, &second)?)
+    Ok(lower_text(words.heap, &first, &second)?)
 }
 
 /// `loser NONCE NONCE NONCE NONCE`: whose new SA loses, by the nonces of A's exchange and then of B's.
-pub(crate) fn loser(heap: Global, words: &mut Words<'_>) -> Result<String, Stop> {
+pub(crate) fn loser(words: &mut Words<'_>) -> Result<String, Stop> {
     let a = read_exchanged(words)?;
     let b = read_exchanged(words)?;
     words.end()?;
-    Ok(loser_name(&a, &b).to_string(heap)?)
+    Ok(loser_text(words.heap, &a, &b)?)
 }
 
 /// The nonces of an exchange.
@@ -68,10 +67,8 @@ fn octets_text(heap: Global, message: &Message<Nonce>) -> Result<String, Stop>
     ensures { IfOk result (λ s. string_bytes s ≡ hex_text (octets_of message.now)) }
 {
     let mut buffer = [0u8; LONGEST];
-    match message.encode(&mut buffer) {
-        Ok(len) => Ok(to_hex(heap, &buffer[0..len])?),
-        Err(_) => Err(Stop::Wrong(Wrong::NoRoom)),
-    }
+    let len = message.encode(&mut buffer).map_err(|_| Wrong::NoRoom)?;
+    Ok(to_hex(heap, &buffer[0..len])?)
 }
 
 /// The lower of two nonces as text.
@@ -81,18 +78,18 @@ fn lower_text(heap: Global, first: &Nonce, second: &Nonce) -> Result<String, All
     to_hex(heap, compare::lower(first, second))
 }
 
-/// The name of the end whose new SA loses.
-fn loser_name(a: &Exchanged, b: &Exchanged) -> &'static str
-    ensures { result.now ≡ side_text (loser_in a.now b.now) }
+/// The end whose new SA loses, as text.
+fn loser_text(heap: Global, a: &Exchanged, b: &Exchanged) -> Result<String, AllocError>
+    ensures { IfOk result (λ s. string_bytes s ≡ side_text (loser_in a.now b.now)) }
 {
-    side_name(compare::loser(a, b))
+    compare::loser(a, b).to_string(heap)
 }
 
 /// What is printed of a message.
 fn message_text(heap: Global, message: &Message<&[u8]>) -> Result<String, AllocError> {
     let initiator = to_hex(heap, &message.initiator.to_be_bytes())?;
     let responder = to_hex(heap, &message.responder.to_be_bytes())?;
-    let sender = side_name(message.sender);
+    let sender = message.sender;
     let id = message.id;
     let (direction, kind) = match message.body {
         Body::Request(request) => ("request", request_text(heap, request)?),
@@ -135,13 +132,6 @@ fn response_text(heap: Global, response: Response<&[u8]>) -> Result<String, Allo
     }
 }
 
-/// Whether a message asks or answers.
-#[derive(Clone, Copy)]
-enum Direction {
-    Asking,
-    Answering,
-}
-
 /// A message, in the words that `decode` prints.
 fn read_message(words: &mut Words<'_>) -> Result<Message<Nonce>, Stop> {
     words.keyword("ike")?;
@@ -165,12 +155,13 @@ fn read_message(words: &mut Words<'_>) -> Result<Message<Nonce>, Stop> {
 
 /// `request` or `response`.
 fn read_direction(words: &mut Words<'_>) -> Result<Direction, Stop> {
-    let expected = "`request` or `response`";
-    match words.word(expected)? {
-        "request" => Ok(Direction::Asking),
-        "response" => Ok(Direction::Answering),
-        word => Err(words.unexpected(word, expected)),
-    }
+    words.choice(
+        "`request` or `response`",
+        &[
+            ("request", Direction::Asking),
+            ("response", Direction::Answering),
+        ],
+    )
 }
 
 /// What a request asks for.
@@ -198,7 +189,7 @@ fn read_request(words: &mut Words<'_>) -> Result<Request<Nonce>, Stop> {
             spi: read_spi(words)?,
         }),
         "empty" => Ok(Request::Empty),
-        word => Err(words.unexpected(word, expected)),
+        word => words.unexpected(word, expected),
     }
 }
 
@@ -218,7 +209,7 @@ fn read_response(words: &mut Words<'_>) -> Result<Response<Nonce>, Stop> {
             spi: read_spi(words)?,
         }),
         "empty" => Ok(Response::Empty),
-        word => Err(words.unexpected(word, expected)),
+        word => words.unexpected(word, expected),
     }
 }
 
@@ -232,7 +223,7 @@ fn read_failure(words: &mut Words<'_>) -> Result<Failure, Stop> {
         "44" => Ok(Failure::ChildSaNotFound {
             spi: read_spi(words)?,
         }),
-        word => Err(words.unexpected(word, expected)),
+        word => words.unexpected(word, expected),
     }
 }
 

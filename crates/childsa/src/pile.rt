@@ -1,9 +1,8 @@
 //! A bottom with the markers over it.
 ghost use Rattle.std.specs.Prelude.{◌≡◌};
-ghost use Rattle.childsa.specs.Piles.{pile_means, piled};
+ghost use Rattle.childsa.specs.Piles.{layer_means, layered, piled};
 ghost use Rattle.channel.specs.Marking.{marked_sound};
-ghost use Rattle.childsa.specs.declared.pile.Pile.TheVariants.{Plain, One, Two, Three};
-ghost use Rattle.childsa.specs.Through.{bottom_sound};
+ghost use Rattle.childsa.specs.declared.pile.Layer.TheVariants.{Bare, Marked};
 
 use crate::bottom::Bottom;
 use channel::channel::Channel;
@@ -11,63 +10,64 @@ use channel::marker::Marker;
 use channel::sent::Sent;
 use nonce::side::Side;
 
-/// A channel, whose layers the script chooses.
+/// A channel with or without a marker over it, as the script chooses.
 #[derive(Drop)]
-pub(crate) enum Pile {
-    Plain(Bottom),
-    One(Marker<Bottom>),
-    Two(Marker<Marker<Bottom>>),
-    Three(Marker<Marker<Marker<Bottom>>>),
+pub(crate) enum Layer<C> {
+    Bare(C),
+    Marked(Marker<C>),
 }
 
-impl Pile {
-    /// A bottom with this many markers over it, at most three.
-    pub(crate) fn over(bottom: Bottom, markers: usize) -> Pile
-        ensures { result ≡ piled bottom markers }
+/// A bottom with up to three markers over it. A box for each would be memory that `over` could want.
+pub(crate) type Pile = Layer<Layer<Layer<Bottom>>>;
+
+/// A bottom with this many markers over it, at most three.
+pub(crate) fn over(bottom: Bottom, markers: usize) -> Pile
+    ensures { result ≡ piled bottom markers }
+{
+    let lowest = Layer::new(bottom, markers > 0);
+    let middle = Layer::new(lowest, markers > 1);
+    Layer::new(middle, markers > 2)
+}
+
+impl<C: Channel> Layer<C> {
+    /// A channel, and a marker over it where it is to be marked.
+    fn new(channel: C, marked: bool) -> Layer<C>
+        ensures { result ≡ layered channel marked }
     {
-        match markers {
-            0 => Pile::Plain(bottom),
-            1 => Pile::One(Marker::over(bottom)),
-            2 => Pile::Two(Marker::over(Marker::over(bottom))),
-            _ => Pile::Three(Marker::over(Marker::over(Marker::over(bottom)))),
+        if marked {
+            Layer::Marked(Marker::over(channel))
+        } else {
+            Layer::Bare(channel)
         }
     }
 }
 
-impl Channel for Pile {
-    ghost meaning = { pile_means };
+impl<C: Channel> Channel for Layer<C> {
+    ghost meaning = { λ s. layer_means C.Channel.meaning s };
 
     ghost sound = { elim [
-      | Plain c ↦ bottom_sound c
-      | One c ↦ marked_sound _ (bottom_sound c.below)
-      | Two c ↦ marked_sound _ (marked_sound _ (bottom_sound c.below.below))
-      | Three c ↦ marked_sound _ (marked_sound _ (marked_sound _ (bottom_sound c.below.below.below)))
+      | Bare c ↦ C.Channel.sound c
+      | Marked c ↦ marked_sound _ (C.Channel.sound c.below)
     ] };
 
     fn longest(&self) -> usize {
         match self {
-            Pile::Plain(channel) => channel.longest(),
-            Pile::One(channel) => channel.longest(),
-            Pile::Two(channel) => channel.longest(),
-            Pile::Three(channel) => channel.longest(),
+            Layer::Bare(channel) => channel.longest(),
+            Layer::Marked(channel) => channel.longest(),
         }
     }
 
     fn send(&mut self, to: Side, datagram: &[u8]) -> Sent {
         match self {
-            Pile::Plain(channel) => channel.send(to, datagram),
-            Pile::One(channel) => channel.send(to, datagram),
-            Pile::Two(channel) => channel.send(to, datagram),
-            Pile::Three(channel) => channel.send(to, datagram),
+            Layer::Bare(channel) => channel.send(to, datagram),
+            Layer::Marked(channel) => channel.send(to, datagram),
         }
     }
 
     fn receive(&mut self, at: Side, buffer: &mut [u8]) -> Option<usize> {
         match self {
-            Pile::Plain(channel) => channel.receive(at, buffer),
-            Pile::One(channel) => channel.receive(at, buffer),
-            Pile::Two(channel) => channel.receive(at, buffer),
-            Pile::Three(channel) => channel.receive(at, buffer),
+            Layer::Bare(channel) => channel.receive(at, buffer),
+            Layer::Marked(channel) => channel.receive(at, buffer),
         }
     }
 }

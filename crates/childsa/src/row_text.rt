@@ -1,10 +1,12 @@
-//! Rows in words: how they are read from a script, and printed.
+//! Rows in words: how they are read from a script, and printed. A row holds octets, whose text wants memory: so functions
+//! make its text, and no `Display`.
 ghost use Rattle.std.specs.Prelude.{◌≡◌, IfOk, string_bytes};
 ghost use Rattle.nonce.specs.Nonces.{as_nonce};
 ghost use Rattle.book.specs.Rows.{kept_octets, nr_octets};
-ghost use Rattle.childsa.specs.Told.{spis_text, standing_text, nonce_text, nonces_text, row_text};
+ghost use Rattle.childsa.specs.Told.{nonce_text, nonces_text, row_text};
 
-use crate::hex::to_hex;
+use crate::digits::to_hex;
+use crate::told::Told;
 use crate::words::Words;
 use crate::wrong::Stop;
 use book::row::{Beginner, KeptNonce, Row, RowState, Spis};
@@ -30,22 +32,6 @@ fn responder_text(heap: Global, row: &Row) -> Result<String, AllocError>
     }
 }
 
-/// Two SPIs as text.
-fn spis_text(heap: Global, own: u32, peer: u32) -> Result<String, AllocError>
-    ensures { IfOk result (λ s. string_bytes s ≡ spis_text own peer) }
-{
-    format!(in heap; "{own} {peer}")
-}
-
-/// The state of a row and who began, as text.
-fn standing_text(heap: Global, row: &Row) -> Result<String, AllocError>
-    ensures { IfOk result (λ s. string_bytes s ≡ standing_text row.now) }
-{
-    let state = row.state.number();
-    let began = row.began.number();
-    format!(in heap; "{state} {began}")
-}
-
 /// The nonces of a row as text.
 fn nonces_text(heap: Global, row: &Row) -> Result<String, AllocError>
     ensures { IfOk result (λ s. string_bytes s ≡ nonces_text row.now) }
@@ -59,9 +45,12 @@ fn nonces_text(heap: Global, row: &Row) -> Result<String, AllocError>
 pub(crate) fn row_text(heap: Global, row: &Row) -> Result<String, AllocError>
     ensures { IfOk result (λ s. string_bytes s ≡ row_text row.now) }
 {
-    let spis = spis_text(heap, row.own, row.peer)?;
-    let standing = standing_text(heap, row)?;
-    let parent = spis_text(heap, row.parent.own, row.parent.peer)?;
+    let spis = Told(Spis {
+        own: row.own,
+        peer: row.peer,
+    });
+    let standing = Told((row.state, row.began));
+    let parent = Told(row.parent);
     let nonces = nonces_text(heap, row)?;
     format!(in heap; "row {spis} {standing} parent {parent} {nonces}")
 }
@@ -91,25 +80,24 @@ pub(crate) fn read_row(words: &mut Words<'_>) -> Result<Row, Stop> {
 
 /// The number of a state.
 fn read_state(words: &mut Words<'_>) -> Result<RowState, Stop> {
-    let expected = "a state, 1 to 5";
-    match words.word(expected)? {
-        "1" => Ok(RowState::Opening),
-        "2" => Ok(RowState::Fresh),
-        "3" => Ok(RowState::Standing),
-        "4" => Ok(RowState::Superseded),
-        "5" => Ok(RowState::Closing),
-        word => Err(words.unexpected(word, expected)),
-    }
+    words.choice(
+        "a state, 1 to 5",
+        &[
+            ("1", RowState::Opening),
+            ("2", RowState::Fresh),
+            ("3", RowState::Standing),
+            ("4", RowState::Superseded),
+            ("5", RowState::Closing),
+        ],
+    )
 }
 
 /// The number of who began.
 fn read_beginner(words: &mut Words<'_>) -> Result<Beginner, Stop> {
-    let expected = "0 or 1, who began";
-    match words.word(expected)? {
-        "0" => Ok(Beginner::ThisEnd),
-        "1" => Ok(Beginner::Peer),
-        word => Err(words.unexpected(word, expected)),
-    }
+    words.choice(
+        "0 or 1, who began",
+        &[("0", Beginner::ThisEnd), ("1", Beginner::Peer)],
+    )
 }
 
 /// `parent OWN PEER`.
@@ -123,10 +111,10 @@ fn read_parent(words: &mut Words<'_>) -> Result<Spis, Stop> {
 /// A nonce of a row; `-` stands for none.
 fn read_kept(words: &mut Words<'_>, expected: &str) -> Result<KeptNonce, Stop> {
     match words.word(expected)? {
-        "-" => Ok(KeptNonce::EMPTY),
+        "-" => Ok(KeptNonce::default()),
         word => {
             let nonce = words.nonce_from(word)?;
-            Ok(KeptNonce::of(&nonce))
+            Ok(KeptNonce::from(&nonce))
         }
     }
 }

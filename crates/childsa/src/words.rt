@@ -1,11 +1,10 @@
 //! The words of a line, and what they stand for.
 ghost use Rattle.std.specs.Prelude.{◌≡◌, ◌++◌, IfOk, Some, string_bytes, codes};
 ghost use Rattle.nonce.specs.Nonces.{as_nonce};
-ghost use Rattle.nonce.specs.Names.{side_text};
 ghost use Rattle.childsa.specs.Hex.{from_hex};
 ghost use Rattle.childsa.specs.Read.{decimal, spread, ike_spi};
 
-use crate::hex::from_hex;
+use crate::digits::from_hex;
 use crate::wrong::{Stop, Wrong};
 use nonce::Nonce;
 use nonce::side::Side;
@@ -16,22 +15,17 @@ use std::str::SplitWhitespace;
 /// The words of a line that are still to be read.
 #[derive(Drop)]
 pub(crate) struct Words<'a> {
-    heap: Global,
+    pub(crate) heap: Global,
     left: SplitWhitespace<'a>,
 }
 
 impl<'a> Words<'a> {
     /// The words of a line, up to a comment.
     pub(crate) fn new(heap: Global, line: &'a str) -> Words<'a> {
-        match line.split_once('#') {
-            Some((before, _)) => Words {
-                heap,
-                left: before.split_whitespace(),
-            },
-            None => Words {
-                heap,
-                left: line.split_whitespace(),
-            },
+        let before = line.split_once('#').map_or(line, |(before, _)| before);
+        Words {
+            heap,
+            left: before.split_whitespace(),
         }
     }
 
@@ -40,39 +34,43 @@ impl<'a> Words<'a> {
         self.left.next()
     }
 
+    /// The line is wrong: it has this word where something else was expected.
+    pub(crate) fn unexpected<T>(&self, word: &str, expected: &str) -> Result<T, Stop> {
+        let word = word.to_string(self.heap)?;
+        let expected = expected.to_string(self.heap)?;
+        Err(Wrong::Unexpected { word, expected }.into())
+    }
+
     /// No word is left.
     pub(crate) fn end(&mut self) -> Result<(), Stop> {
         match self.next() {
-            Some(word) => Err(Stop::Wrong(Wrong::TooMany(word.to_string(self.heap)?))),
+            Some(word) => Err(Wrong::TooMany(word.to_string(self.heap)?).into()),
             None => Ok(()),
         }
     }
 
     /// The next word, which stands for what is expected.
     pub(crate) fn word(&mut self, expected: &str) -> Result<&'a str, Stop> {
-        match self.next() {
-            Some(word) => Ok(word),
-            None => Err(Stop::Wrong(Wrong::Missing(expected.to_string(self.heap)?))),
-        }
+        self.next().try_ok_or_else(|| Ok(Wrong::Missing(expected.to_string(self.heap)?).into()))
     }
 
-    /// The line is wrong: it has this word where something else was expected.
-    pub(crate) fn unexpected(&self, word: &str, expected: &str) -> Stop {
-        match (word.to_string(self.heap), expected.to_string(self.heap)) {
-            (Ok(word), Ok(expected)) => Stop::Wrong(Wrong::Unexpected { word, expected }),
-            _ => Stop::Memory,
-        }
+    /// What the next word stands for: it is one of those that a table lists.
+    pub(crate) fn choice<T: Copy>(
+        &mut self,
+        expected: &str,
+        table: &[(&str, T)],
+    ) -> Result<T, Stop> {
+        let word = self.word(expected)?;
+        let Some((_, meant)) = table.iter().find(|(listed, _)| *listed == word) else {
+            return self.unexpected(word, expected);
+        };
+        Ok(*meant)
     }
 
     /// The next word, which is to be this one.
     pub(crate) fn keyword(&mut self, keyword: &str) -> Result<(), Stop> {
         let expected = quoted(self.heap, keyword)?;
-        let word = self.word(expected.as_str())?;
-        if word == keyword {
-            Ok(())
-        } else {
-            Err(self.unexpected(word, expected.as_str()))
-        }
+        self.choice(expected.as_str(), &[(keyword, ())])
     }
 
     /// A number of 32 bits.
@@ -84,44 +82,42 @@ impl<'a> Words<'a> {
     /// The number of 32 bits that a word writes.
     pub(crate) fn number_from(&self, word: &str) -> Result<u32, Stop> {
         if !is_decimal(word) {
-            return Err(Stop::Wrong(Wrong::NotNumber(word.to_string(self.heap)?)));
+            return Err(Wrong::NotNumber(word.to_string(self.heap)?).into());
         }
-        match word.parse::<u32>() {
-            Ok(number) => Ok(number),
-            Err(_) => Err(Stop::Wrong(Wrong::TooLarge(word.to_string(self.heap)?))),
-        }
+        word.parse::<u32>()
+            .try_map_err(|_| Ok(Wrong::TooLarge(word.to_string(self.heap)?).into()))
     }
 
     /// An end of the IKE SA.
     pub(crate) fn side(&mut self) -> Result<Side, Stop> {
-        let expected = "`A` or `B`";
-        match self.word(expected)? {
-            "A" => Ok(Side::A),
-            "B" => Ok(Side::B),
-            word => Err(self.unexpected(word, expected)),
-        }
+        self.choice("`A` or `B`", &[("A", Side::A), ("B", Side::B)])
     }
 
     /// Octets.
     pub(crate) fn octets(&mut self, expected: &str) -> Result<Vec<u8>, Stop> {
         let word = self.word(expected)?;
-        octets_of(self.heap, word)
+        self.octets_from(word)
+    }
+
+    /// The octets that a word writes.
+    pub(crate) fn octets_from(&self, word: &str) -> Result<Vec<u8>, Stop>
+        ensures { IfOk result (λ v. Some v.items ≡ from_hex word.now) }
+    {
+        let octets = from_hex(self.heap, word)?;
+        octets.try_ok_or_else(|| Ok(Wrong::NotHex(word.to_string(self.heap)?).into()))
     }
 
     /// An SPI of the IKE SA.
     pub(crate) fn ike_spi(&mut self, expected: &str) -> Result<u64, Stop> {
         let octets = self.octets(expected)?;
-        match ike_spi_of(octets.as_slice()) {
-            Some(spi) => Ok(spi),
-            None => Err(Stop::Wrong(Wrong::IkeSpiLength(octets.len()))),
-        }
+        Ok(ike_spi_of(octets.as_slice()).ok_or(Wrong::IkeSpiLength(octets.len()))?)
     }
 
     /// The octets of a datagram; `-` stands for none.
     pub(crate) fn datagram(&mut self) -> Result<Vec<u8>, Stop> {
         match self.word("the octets of a datagram, or `-` for none")? {
             "-" => Ok(Vec::new(self.heap)),
-            word => octets_of(self.heap, word),
+            word => self.octets_from(word),
         }
     }
 
@@ -133,21 +129,8 @@ impl<'a> Words<'a> {
 
     /// The nonce that a word writes.
     pub(crate) fn nonce_from(&self, word: &str) -> Result<Nonce, Stop> {
-        let octets = octets_of(self.heap, word)?;
-        match nonce_of(octets.as_slice()) {
-            Some(nonce) => Ok(nonce),
-            None => Err(Stop::Wrong(Wrong::NonceLength(octets.len()))),
-        }
-    }
-}
-
-/// The name of an end.
-pub(crate) fn side_name(side: Side) -> &'static str
-    ensures { result.now ≡ side_text side }
-{
-    match side {
-        Side::A => "A",
-        Side::B => "B",
+        let octets = self.octets_from(word)?;
+        Ok(nonce_of(octets.as_slice()).ok_or(Wrong::NonceLength(octets.len()))?)
     }
 }
 
@@ -162,22 +145,7 @@ fn quoted(heap: Global, word: &str) -> Result<String, AllocError>
 fn is_decimal(word: &str) -> bool
     ensures { result ≡ decimal word.now }
 {
-    for c in word.bytes() {
-        if !c.is_ascii_digit() {
-            return false;
-        }
-    }
-    true
-}
-
-/// The octets that a word writes.
-pub(crate) fn octets_of(heap: Global, word: &str) -> Result<Vec<u8>, Stop>
-    ensures { IfOk result (λ v. Some v.items ≡ from_hex word.now) }
-{
-    match from_hex(heap, word)? {
-        Some(octets) => Ok(octets),
-        None => Err(Stop::Wrong(Wrong::NotHex(word.to_string(heap)?))),
-    }
+    word.bytes().all(|c| c.is_ascii_digit())
 }
 
 /// The IKE SPI of eight octets.

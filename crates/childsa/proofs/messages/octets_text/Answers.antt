@@ -1,13 +1,15 @@
-use Rattle.std.proofs.Common.{arith}
-use Rattle.childsa.proofs.Fronts.{front, shown}
+use Rattle.std.proofs.Common.{sym, ◌∙◌, arith}
+use Rattle.childsa.proofs.Fronts.{front, shown, mapped_ok}
 use Rattle.childsa.proofs.messages.octets_text.Goals as goal
 
 pub slice_bounds-to_hex-end : goal.slice_bounds-to_hex-end
 slice_bounds-to_hex-end c =
-    let f = front c.args.message.now _ c.in-Ok.len c.in-Ok.ensures.answer in
+    let wrote = mapped_ok _ _ _ c.in_ok-len.len c.map_err.ensures.cases c.map_err.ensures.variant c.in_ok-len.was in
+    let f = front c.args.message.now _ c.in_ok-len.len (sym wrote ∙ c.encode.ensures.answer) in
     omega (arith, f.room, c.encode.auto.out)
 
-pub returns-in_ok-to_hex-in-Ok : goal.returns-in_ok-to_hex-in-Ok
-returns-in_ok-to_hex-in-Ok c =
-    shown c.args.message.now _ _ c.in-Ok.len _ c.in-Ok.ensures.answer
-    c.encode.ensures.buffer c.in_ok-to_hex-in-Ok.ensures
+pub returns : goal.returns
+returns c =
+    let wrote = mapped_ok _ _ _ c.in_ok-len.len c.map_err.ensures.cases c.map_err.ensures.variant c.in_ok-len.was in
+    shown c.args.message.now _ _ c.in_ok-len.len _ (sym wrote ∙ c.encode.ensures.answer)
+    c.encode.ensures.buffer c.in_ok-to_hex.ensures
