@@ -8,7 +8,7 @@ use Rattle.std.proofs.lemmas.List.{map_push}
 use Rattle.arrayvec.specs.ArrayVec.{ArrayVec}
 use Rattle.nonce.specs.declared.side.Side.{Side}
 use Rattle.nonce.specs.declared.side.Side.TheVariants.{A, B}
-use Rattle.bottoms.specs.Both.{at, with_at}
+use Rattle.nonce.specs.Both.{at, with_at}
 use Rattle.bottoms.specs.Datagrams.{octets_of, lane_list, is_sized, all_sized}
 use Rattle.bottoms.specs.Sizes.{admitted_parts, sized_last}
 use Rattle.bottoms.specs.Stores.{list_at, admits, store_of}

@@ -1,4 +1,3 @@
-pub mod Both
 pub mod Datagrams
 pub mod Refusals
 pub mod Stores

@@ -1,12 +1,12 @@
 //! The datagrams for each end.
 ghost use Rattle.std.specs.Prelude.{◌≡◌, ◌≤◌, true};
 ghost use Rattle.nonce.specs.declared.side.Side.{Side};
-ghost use Rattle.bottoms.specs.Both.{at};
+ghost use Rattle.nonce.specs.Both.{at};
 ghost use Rattle.bottoms.specs.Datagrams.{all_sized, lane_list};
 
-use crate::both::Both;
 use crate::datagram::Datagram;
 use arrayvec::ArrayVec;
+use nonce::both::Both;
 
 pub(crate) mod methods;
 

@@ -1,7 +1,6 @@
 //! Channels that hold datagrams themselves: a queue, a stack, and a trace that has a fate for each send.
 #![tactic(auto)]
 
-mod both;
 pub mod bottom;
 mod datagram;
 mod lanes;

@@ -83,6 +83,7 @@ pub(crate) fn receive(line: &mut Line<'_>) -> Result<String, Stop> {
     let at = line.words.side()?;
     let len = read_length(&mut line.words)?;
     line.words.end()?;
+    // a channel writes to a slice of full length, so the room has no length of its own
     let mut room = [0u8; 256];
     let channel = line.desk.channel.as_mut().ok_or(Wrong::NoChannel)?;
     Ok(received_text(line.words.heap, channel, at, &mut room[0..len])?)

@@ -5,13 +5,13 @@ ghost use Rattle.childsa.specs.Desks.{empty_desk, book_at, with_book};
 
 use crate::any_book::AnyBook;
 use crate::pile::Pile;
+use nonce::both::Both;
 use nonce::side::Side;
 
 /// The books A and B, and the channel, once they are made.
 #[derive(Default, Drop)]
 pub(crate) struct Desk {
-    a: Option<AnyBook>,
-    b: Option<AnyBook>,
+    books: Both<Option<AnyBook>>,
     pub(crate) channel: Option<Pile>,
 }
 
@@ -27,27 +27,18 @@ impl Desk {
     pub(crate) fn start(&mut self, name: Side, book: AnyBook)
         ensures { self.new ≡ with_book self.old name book }
     {
-        match name {
-            Side::A => self.a = Some(book),
-            Side::B => self.b = Some(book),
-        }
+        *self.books.at_mut(name) = Some(book);
     }
 
     /// The book of a name.
     pub(crate) fn book(&self, name: Side) -> Option<&AnyBook>
         ensures { option_map (λ x. x.now) result ≡ book_at self.now name }
     {
-        match name {
-            Side::A => self.a.as_ref(),
-            Side::B => self.b.as_ref(),
-        }
+        self.books.at(name).as_ref()
     }
 
     /// The book of a name, to change it: beside `book`, as `as_mut` is beside `as_ref`.
     pub(crate) fn book_mut(&mut self, name: Side) -> Option<&mut AnyBook> {
-        match name {
-            Side::A => self.a.as_mut(),
-            Side::B => self.b.as_mut(),
-        }
+        self.books.at_mut(name).as_mut()
     }
 }

@@ -66,6 +66,7 @@ fn read_exchanged(words: &mut Words<'_>) -> Result<Exchanged, Stop> {
 fn octets_text(heap: Global, message: &Message<Nonce>) -> Result<String, Stop>
     ensures { IfOk result (λ s. string_bytes s ≡ hex_text (octets_of message.now)) }
 {
+    // `encode` writes to a slice of full length, so the buffer has no length of its own
     let mut buffer = [0u8; LONGEST];
     let len = message.encode(&mut buffer).map_err(|_| Wrong::NoRoom)?;
     Ok(to_hex(heap, &buffer[0..len])?)

@@ -1,3 +1,4 @@
+pub mod Both
 pub mod Kept
 pub mod Nonces
 pub mod Order

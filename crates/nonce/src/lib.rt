@@ -3,6 +3,7 @@
 
 use std::marker::Model;
 
+pub mod both;
 pub mod methods;
 pub mod order;
 pub mod side;

@@ -4,11 +4,11 @@ ghost use Rattle.std.specs.Result.{result_map_both};
 ghost use Rattle.bottoms.specs.Stores.{admits, added_last, added_first, received, fresh, store_of};
 ghost use Rattle.bottoms.specs.Fates.{fated};
 
-use crate::both::Both;
 use crate::datagram::datagram;
 use crate::lanes::Lanes;
 use crate::refusal::MakeRefusal;
 use crate::rule::Fate;
+use nonce::both::Both;
 use nonce::side::Side;
 
 impl Lanes {

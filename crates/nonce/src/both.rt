@@ -1,20 +1,20 @@
 //! One of a kind for each end.
 ghost use Rattle.std.specs.Prelude.{◌≡◌};
 ghost use Rattle.std.specs.Borrow.{sem};
-ghost use Rattle.bottoms.specs.Both.{at, lends_at};
+ghost use Rattle.nonce.specs.Both.{at, lends_at};
 
-use nonce::side::Side;
+use crate::side::Side;
 
 /// One for end A, and one for end B.
 #[derive(Default, Drop)]
-pub(crate) struct Both<T> {
-    a: T,
-    b: T,
+pub struct Both<T> {
+    pub a: T,
+    pub b: T,
 }
 
 impl<T> Both<T> {
     /// The one for an end.
-    pub(crate) fn at(&self, side: Side) -> &T
+    pub fn at(&self, side: Side) -> &T
         ensures { result.now ≡ at self.now side }
     {
         match side {
@@ -24,7 +24,7 @@ impl<T> Both<T> {
     }
 
     /// The one for an end, for writing.
-    pub(crate) fn at_mut(&mut self, side: Side) -> &mut T
+    pub fn at_mut(&mut self, side: Side) -> &mut T
         ensures* writes_back { sem 𝓛 (lends_at T.row self.entry side result) }
         ensures value { result.now ≡ at self.old side }
     {

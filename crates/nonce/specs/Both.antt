@@ -2,8 +2,8 @@
 use Rattle.std.specs.Borrow.{Lends, Fml, RattleType, MutBor}
 use Rattle.nonce.specs.declared.side.Side.{Side}
 use Rattle.nonce.specs.declared.side.Side.TheVariants.{A, B}
-use Rattle.bottoms.specs.declared.both.Both.{Both}
-use Rattle.bottoms.specs.contracts.both.Both.{the_row}
+use Rattle.nonce.specs.declared.both.Both.{Both}
+use Rattle.nonce.specs.contracts.both.Both.{the_row}
 
 abbrev pub at : {T : Type 0} → Both T → Side → T
 at p A = p.a
