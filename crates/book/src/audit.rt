@@ -8,7 +8,7 @@ use crate::Book;
 use crate::row::Row;
 use nonce::side::Side;
 
-/// A row that has no mirror, and the side whose book it is in.
+/// A row that has no mirror, and which of the two books it is in: A is the first of an audit, B the second.
 #[derive(Clone, Copy)]
 pub struct Alone {
     pub side: Side,

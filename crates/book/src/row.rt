@@ -2,11 +2,13 @@
 ghost use Rattle.std.specs.Prelude.{◌≡◌};
 ghost use Rattle.numbered.specs.Apart.{apart_by};
 ghost use Rattle.nonce.specs.Nonces.{as_nonce};
-ghost use Rattle.book.specs.Rows.{state_number, state_of, state_told, beginner_number, beginner_of, beginner_told, is_opening, kept, kept_octets, nr_octets, swapped, spis, exchanged, mirrors};
+ghost use Rattle.book.specs.Rows.{state_number, state_of, state_told, is_opening, kept, kept_octets, nr_octets, swapped, spis, exchanged, mirrors};
 ghost use Rattle.book.specs.Shelves.{shows, beyond};
 
 use nonce::Nonce;
 use numbered::Numbered;
+
+mod began;
 
 /// The state of a Child SA at one end.
 #[derive(Clone, Copy, PartialEq, Eq, Debug, Default)]
@@ -47,7 +49,8 @@ pub struct Spis {
 }
 
 /// A row of a book. A row is filed by its own SPI.
-// The two SPIs are no Spis, since the own SPI is the key alone, and an Opening row has no peer SPI yet.
+// The two SPIs are fields of their own and no `Spis`: a row is filed and looked for by `own` alone, all over the books.
+// That 0 stands for no SPI, and the state for an empty nonce, is how rows are filed: plain numbers, a rule of the project.
 #[derive(Clone, Copy, Default)]
 pub struct Row {
     pub own: u32,
@@ -82,20 +85,11 @@ impl RowState {
     }
 }
 
-impl Numbered for Beginner {
-    ghost number_of = { beginner_number };
-
-    fn number(self) -> u16 {
-        self as u16
-    }
-
-    ghost apart = { apart_by beginner_number beginner_of beginner_told };
-}
-
 impl From<&Nonce> for KeptNonce {
     ghost from_gives = { λ n k. k ≡ kept n.now };
 
     /// The octets of a nonce.
+    // padded as in `Nonce::new`, whose array stays its own
     fn from(nonce: &Nonce) -> KeptNonce {
         let from = nonce.as_slice();
         let len = from.len();
@@ -107,7 +101,7 @@ impl From<&Nonce> for KeptNonce {
 
 impl KeptNonce {
     /// The nonce, or nothing where the octets are not 16 to 32.
-    // Not a TryFrom: there is one way to fail, and an error type would say no more than None does.
+    // an Option and no TryFrom, as `Nonce::new`: what a wrong length means is the caller's to say
     pub fn nonce(&self) -> Option<Nonce>
         ensures { result ≡ as_nonce (kept_octets self.now) }
     {

@@ -86,20 +86,24 @@ fn finds<B: Book>(rt: &impl Abort, book: &mut B) -> Result<(), Fail> {
     Ok(())
 }
 
+/// All of these, each of a book that is new.
+fn all<B: Book + Drop, F: Fn() -> B>(rt: &impl Abort, new: F) -> Result<(), Fail>
+    requires { F.IsAlwaysCallable new }
+{
+    refuses(rt, &mut new())?;
+    refills(rt, &mut new())?;
+    walks(rt, &mut new())?;
+    finds(rt, &mut new())
+}
+
 #[test]
 fn ordered_books(rt: HostRuntime) -> Result<(), Fail> {
-    refuses(&rt, &mut OrderedBook::new())?;
-    refills(&rt, &mut OrderedBook::new())?;
-    walks(&rt, &mut OrderedBook::new())?;
-    finds(&rt, &mut OrderedBook::new())
+    all(&rt, OrderedBook::new)
 }
 
 #[test]
 fn table_books(rt: HostRuntime) -> Result<(), Fail> {
-    refuses(&rt, &mut TableBook::new())?;
-    refills(&rt, &mut TableBook::new())?;
-    walks(&rt, &mut TableBook::new())?;
-    finds(&rt, &mut TableBook::new())
+    all(&rt, TableBook::new)
 }
 
 /// A nonce of 20 octets.

@@ -8,7 +8,8 @@ pub mod methods;
 pub mod order;
 pub mod side;
 
-/// A nonce of 16 to 32 octets, as which clauses see it. The octets behind its length are zero.
+/// A nonce of 16 to 32 octets; a clause sees these. The octets behind its length are zero.
+// An array and a length, a rule of the project: fixed memory and `Copy`, for which the tail has to be known.
 #[derive(Clone, Copy)]
 pub struct Nonce {
     octets: [u8; 32],

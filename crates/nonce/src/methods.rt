@@ -6,6 +6,7 @@ use crate::Nonce;
 
 impl Nonce {
     /// The nonce of these octets, or nothing where they are not 16 to 32.
+    // an Option and no TryFrom, as std's `NonZero::new`: what a wrong length means is the caller's to say
     pub fn new(octets: &[u8]) -> Option<Nonce>
         ensures { result ≡ as_nonce octets.now }
     {

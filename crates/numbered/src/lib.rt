@@ -1,9 +1,9 @@
-//! What has a number by which it is told: the refusals and answers of every layer.
+//! What is told by a number: refusals and answers of every layer, and what a row files as one.
 #![tactic(auto)]
 
 ghost use Rattle.std.specs.Prelude.{◌≡◌, ℕ};
 
-/// A kind of refusal or of answer. Each has a number of its own.
+/// A kind of refusal, answer or state. Each has a number of its own.
 pub trait Numbered: Copy {
     /// The number of each.
     ghost number_of: { Self → ℕ };

@@ -13,6 +13,8 @@ fn octets_at<const N: usize>(s: &[u8], i: usize) -> Option<[u8; N]>
     s.get(i..)?.first_chunk().copied()
 }
 
+// Three names over one function, each a line: a trait over the three types would be longer than they are.
+
 /// The number in the two octets from place `i` on, or nothing where the row ends before.
 pub fn u16_at(s: &[u8], i: usize) -> Option<u16>
     ensures { result ≡ within s.now i 2 (half s.now i) }
@@ -35,6 +37,7 @@ pub fn u64_at(s: &[u8], i: usize) -> Option<u64>
 }
 
 /// Whether two rows have the same octets.
+// `==` says that the lists are equal by std's test; this one says it octet for octet
 pub fn same(a: &[u8], b: &[u8]) -> bool
     ensures { result ≡ bytes_eq a.now b.now }
 {

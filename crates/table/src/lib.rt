@@ -12,6 +12,8 @@ mod slots;
 /// How many rows a book can have.
 const CAPACITY: usize = 16;
 
+// Slots of its own and no map of std, since a book needs no heap: fixed memory, a rule of the project.
+
 /// A book of at most 16 rows. A row stands in its hashed place, or in another where that was taken.
 #[derive(Drop)]
 pub struct TableBook {

@@ -42,6 +42,7 @@ impl TableBook {
     }
 
     /// The same, refused where there is none.
+    // that a place is below 16 stands at three functions; a type for a place would be longer
     fn held(&self, own: u32) -> Result<usize, BookRefusal>
         ensures value { result ≡ ok_or (place_of self.now.slots own) BookRefusal.Absent }
         ensures within { IfOk result (λ i. i < 16) }

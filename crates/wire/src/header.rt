@@ -12,6 +12,7 @@ use nonce::side::Side;
 pub(crate) const VERSION: u8 = 0x20;
 
 /// What a header says, with the type of the first payload.
+// not a part of `Message`: that has no numbers of octets, only what is said
 #[derive(Clone, Copy)]
 pub(crate) struct Header {
     pub initiator: u64,

@@ -29,6 +29,7 @@ pub enum Body<N> {
 }
 
 /// What a request asks for.
+// SPI and nonce stand by name in each case, as a match reads them; a struct of both would be one more to take apart
 #[derive(Clone, Copy)]
 pub enum Request<N> {
     /// A new SA, by the requester's SPI for it.

@@ -9,6 +9,7 @@ ghost use Rattle.wire.specs.declared.message.DecodeRefusal.TheVariants as refusa
 use crate::message::DecodeRefusal;
 
 /// The types of payloads.
+// beside `Payload`, which borrows: a type is also announced before its payload is there
 #[derive(Clone, Copy)]
 pub(crate) enum PayloadType {
     Sa = 33,

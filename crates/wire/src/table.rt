@@ -60,6 +60,7 @@ pub(crate) fn failure_body(failure: Failure) -> ArrayVec<u8, 8>
     ensures valid { ValidFailure failure }
 {
     let mut body = ArrayVec::new();
+    // octets of the table, and so not numbers for kinds
     match failure {
         Failure::NoProposalChosen => push(&mut body, &[0, 0, 0, 14]),
         Failure::NoAdditionalSas => push(&mut body, &[0, 0, 0, 35]),

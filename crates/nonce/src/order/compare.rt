@@ -7,6 +7,7 @@ use crate::order::{Exchanged, Lowest, Named};
 use crate::side::Side;
 
 /// Whether `a` is lower than `b`.
+// `<` in a function of its own: that it means the order of the definitions is shown once, here
 fn precedes(a: &[u8], b: &[u8]) -> bool
     ensures { result ≡ lower_than a.now b.now }
 {
@@ -27,6 +28,7 @@ pub fn lower<'a>(a: &'a Nonce, b: &'a Nonce) -> &'a [u8]
 }
 
 /// The lower of two nonces, each with its name; of equal ones, the first.
+// beside `lower`, which has to hand back octets alone: one generic over both would take a way to the octets
 fn lower_named<'a>(a: Named<'a>, b: Named<'a>) -> Named<'a>
     ensures { named result ≡ lower_named (named a.entry) (named b.entry) }
 {
@@ -61,6 +63,7 @@ fn lowest<'a>(a: &'a Exchanged, b: &'a Exchanged) -> Lowest
 }
 
 /// Whose exchange this nonce is of.
+// no `From`: a nonce is not a side, it is asked for one
 fn exchange_of(nonce: Lowest) -> Side
     ensures { result ≡ loser_by nonce }
 {
