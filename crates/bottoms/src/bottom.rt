@@ -15,7 +15,7 @@ use channel::channel::Channel;
 use channel::sent::Sent;
 use nonce::side::Side;
 
-/// At most 32 datagrams are there for each end. What is taken is put where the rule says.
+/// At most 32 datagrams are there for each end. What becomes of what is taken, the rule says.
 #[derive(Drop)]
 pub struct Bottom<R> {
     pub(crate) lanes: Lanes,

@@ -1,5 +1,5 @@
 -- The number of each answer.
-use Rattle.std.specs.Prelude.{◌≡◌, ℕ, ◌+◌, cond, Option, Some, None, Ok, Err, ◌==◌, refl}
+use Rattle.std.specs.Prelude.{◌≡◌, ℕ, ◌+◌, cond, Option, Some, None, Result, Ok, Err, ◌==◌, refl}
 use Rattle.std.specs.Option.{option_map}
 use Rattle.channel.specs.declared.sent.Sent.TheVariants.{Taken, NotTaken}
 use Rattle.channel.specs.Numbers.{sent_number}
@@ -105,6 +105,11 @@ delivered_told (Done Taken) = refl
 delivered_told (Done NotTaken) = refl
 delivered_told (Again Taken) = refl
 delivered_told (Again NotTaken) = refl
+
+-- the number of what is done, or of what turns it down
+abbrev pub told_number : {T E : Type 0} → (T → ℕ) → (E → ℕ) → Result T E → ℕ
+told_number done refused (Ok x) = done x
+told_number done refused (Err e) = refused e
 
 abbrev pub answer_number : Answer → ℕ
 answer_number (Asked (Ok s)) = sent_number s

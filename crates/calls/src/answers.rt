@@ -1,7 +1,7 @@
 //! What the calls of an end answer.
 ghost use Rattle.std.specs.Prelude.{◌≡◌};
 ghost use Rattle.numbered.specs.Apart.{apart_by};
-ghost use Rattle.calls.specs.Numbers.{delivered_number, delivered_of, delivered_told, answer_number};
+ghost use Rattle.calls.specs.Numbers.{delivered_number, delivered_of, delivered_told, told_number, answer_number};
 
 use crate::refusals::{AskRefusal, DeliverRefusal, ResendRefusal};
 use channel::sent::Sent;
@@ -40,18 +40,25 @@ impl Numbered for Delivered {
     ghost apart = { apart_by delivered_number delivered_of delivered_told };
 }
 
+/// The number of what is done, or of what turns it down.
+fn told<T: Numbered, E: Numbered>(answer: Result<T, E>) -> u16
+    ensures { result ≡ told_number T.Numbered.number_of E.Numbered.number_of answer }
+{
+    match answer {
+        Ok(done) => done.number(),
+        Err(refusal) => refusal.number(),
+    }
+}
+
 impl Answer {
-    /// The number of the answer.
+    /// The number of the answer. Not `Numbered`: an ask and a resend that are done are both 0.
     pub fn number(self) -> u16
         ensures { result ≡ answer_number self }
     {
         match self {
-            Answer::Asked(Ok(sent)) => sent.number(),
-            Answer::Asked(Err(refusal)) => refusal.number(),
-            Answer::Resent(Ok(sent)) => sent.number(),
-            Answer::Resent(Err(refusal)) => refusal.number(),
-            Answer::Heard(Ok(delivered)) => delivered.number(),
-            Answer::Heard(Err(refusal)) => refusal.number(),
+            Answer::Asked(answer) => told(answer),
+            Answer::Resent(answer) => told(answer),
+            Answer::Heard(answer) => told(answer),
         }
     }
 }

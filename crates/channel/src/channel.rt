@@ -22,6 +22,7 @@ pub trait Channel {
 
     /// Takes a datagram that has come to an end: its octets at the front of the buffer, and their number. A buffer that is
     /// shorter than the longest datagram gets nothing, and nothing changes.
+    // the caller's octets and a number, a rule of the project: no heap, and octets behind the datagram stay
     fn receive(&mut self, at: Side, buffer: &mut [u8]) -> Option<usize>
         ensures effect { ReceivedAs (meaning self.old) (meaning self.new) at buffer.old buffer.new result }
         ensures short { length buffer.old < (meaning self.old).longest → (result ≡ None) × (self.new ≡ self.old) }

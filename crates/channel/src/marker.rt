@@ -95,7 +95,7 @@ impl<C: Channel> Channel for Marker<C> {
         if buffer.len() < self.longest() {
             return None;
         }
-        // The channel below writes to a slice of full length, so the room has no length of its own.
+        // fixed memory, a rule of the project: the channel below writes to a slice of full length
         let mut room = [0; 256];
         let len = self.below.receive(at, &mut room)?;
         pass_on(&room[..len], buffer)

@@ -6,6 +6,7 @@ ghost use Rattle.channel.specs.Numbers.{sent_number, sent_of, sent_told};
 use numbered::Numbered;
 
 /// Whether a channel took a datagram.
+// no bool, since it is an answer that has a number
 #[derive(Clone, Copy, PartialEq, Eq, Debug)]
 pub enum Sent {
     Taken = 0,

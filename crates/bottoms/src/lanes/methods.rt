@@ -45,12 +45,14 @@ impl Lanes {
         ensures { store_of self.new ≡ fated fate (store_of self.old) to octets.now }
     {
         let lane = self.lists.at_mut(to);
+        // a match and no closure: a fate is a letter that came with the script
         match fate {
             Fate::Pass => lane.push(datagram(octets)),
             Fate::Lose => {}
             Fate::Double => {
                 lane.push(datagram(octets));
-                let _fits = lane.try_push(datagram(octets));
+                // short of space, it is added once
+                let _once = lane.try_push(datagram(octets));
             }
             Fate::Jump => lane.insert(0, datagram(octets)),
         }
