@@ -28,9 +28,9 @@ invariant_of-self-in-Double-clause-sizes c =
     sizes_more l.longest lane c.push-in-Double.new.self one (rw c.datagram-in-Double.ensures sized)
     (rw c.at_mut-lane.ensures.value (l.sizes _)) c.push-in-Double.ensures.items
     in
-    sizes_with l _ c.try_push-fits.new.self
-    (sizes_tried l.longest c.push-in-Double.new.self c.try_push-fits.new.self c.datagram-in-Double-2.result c.try_push-fits.result
-    (rw c.datagram-in-Double-2.ensures sized) once c.try_push-fits.ensures.ok c.try_push-fits.ensures.err)
+    sizes_with l _ c.try_push-once.new.self
+    (sizes_tried l.longest c.push-in-Double.new.self c.try_push-once.new.self c.datagram-in-Double-2.result c.try_push-once.result
+    (rw c.datagram-in-Double-2.ensures sized) once c.try_push-once.ensures.ok c.try_push-once.ensures.err)
 
 pub invariant_of-self-in-Jump-clause-sizes : goal.invariant_of-self-in-Jump-clause-sizes
 invariant_of-self-in-Jump-clause-sizes c =
