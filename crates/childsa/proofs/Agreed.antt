@@ -1,43 +1,22 @@
--- The digits of the crate `hex` are those of `specs/Hex`.
-use Rattle.std.proofs.Common.{◌≡◌, ℕ, zero, suc, ◌+◌, ◌*◌, ◌/◌, ◌%◌, ◌<◌, ◌==◌, Bool, true, false, ◌&&◌, cond, inl, inr, List, [], ◌∷◌, length, slice_index, Some, None, Option, Result, Ok, Err, refl, sym, ap, ◌∙◌, arith}
+-- What `{:02x}` writes, and the digits that the crate `hex` reads, are those of `specs/Hex`.
+use Rattle.std.proofs.Common.{◌≡◌, ℕ, zero, suc, ◌+◌, ◌*◌, ◌/◌, ◌%◌, ◌^◌, ◌-◌, ◌<◌, ◌==◌, Bool, true, false, ◌&&◌, cond, inl, inr, List, [], ◌∷◌, ◌++◌, length, Some, None, Option, Result, Ok, Err, refl, sym, ap, ◌∙◌, arith}
 use Rattle.std.specs.Result.{result_ok}
-use Rattle.std.proofs.lemmas.Bool.{and_parts, cases_lt, eqb-true}
+use Rattle.std.proofs.lemmas.Bool.{eqb-true}
+use Rattle.std.proofs.lemmas.Fmt.{hex_byte}
+use Rattle.std.specs.Fmt.{digits, padded_integral, format_spec}
 use Rattle.std.proofs.lemmas.Grind.{common_steps}
-use Rattle.hex.specs.Hex.{encode_with, encode_lower, lower_digits, decode_of, decode_pairs, hex_digit_value, pair_value, digit_or_error, ◌>>=◌}
+use Rattle.hex.specs.Hex.{decode_of, decode_pairs, hex_digit_value, pair_value, digit_or_error, ◌>>=◌}
 use Rattle.hex.specs.declared.error.FromHexError.{FromHexError}
 use Rattle.hex.specs.declared.error.FromHexError.TheVariants.{OddLength}
 use Rattle.childsa.specs.Hex.{digit_value, pair_value as pair_of, before, from_hex, digit_char, hex_text}
 
 -- ---- writing
 
--- the first digits of the table are ours
-abbrev first_agree : ℕ → Bool
-first_agree zero = true
-first_agree (suc n) = (slice_index lower_digits n == digit_char n) && first_agree n
-
-one_agrees : (n k : ℕ) → first_agree n ≡ true → k < n → slice_index lower_digits k ≡ digit_char k
-one_agrees zero k h lt = absurd (omega arith)
-one_agrees (suc n) k h lt =
-    let p = and_parts (slice_index lower_digits n == digit_char n) (first_agree n) h in
-    elim (cases_lt k n) [
-      | inl below ↦ one_agrees n k p.1 below
-      | inr top ↦
-          let e : k ≡ n = omega arith in
-          rw e (eqb-true (slice_index lower_digits n) (digit_char n) p.0)
-    ]
-
-digit_agrees : (d : ℕ) → d < 16 → slice_index lower_digits d ≡ digit_char d
-digit_agrees d lt = one_agrees 16 d refl lt
-
-pub text_agrees : (xs : List ℕ) → ((i : ℕ) → slice_index xs i < 256) → encode_lower xs ≡ hex_text xs
-unfolding encode_with
-text_agrees [] h = refl
-text_agrees (x ∷ xs) h =
-    let low : x < 256 = h 0 in
-    let high_digit = digit_agrees (x / 16) (omega arith) in
-    let low_digit = digit_agrees (x % 16) (omega arith) in
-    let rest = text_agrees xs (λ i. h (suc i)) in
-    rw (high_digit, low_digit, rest) refl
+-- an octet more, as `{:02x}` writes it
+pub text_more : (xs : List ℕ) (x : ℕ) → x < 256
+    → hex_text (xs ++ x ∷ []) ≡ hex_text xs ++ padded_integral (format_spec 32 0 4 2 (2 ^ 64 - 1)) false [] (digits 16 false x)
+text_more [] x small = sym (hex_byte false x small)
+text_more (y ∷ ys) x small = ap (λ (t : List ℕ). digit_char (y / 16) ∷ digit_char (y % 16) ∷ t) (text_more ys x small)
 
 -- ---- reading
 

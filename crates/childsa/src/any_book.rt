@@ -8,6 +8,7 @@ use ordered::OrderedBook;
 use table::TableBook;
 
 /// A book whose kind the script chooses. Each method is a match, since no function may make a `dyn Book` and hand it out.
+/// Generic in the two books, so that the proof goes by the laws of `Book` and never opens a book.
 #[derive(Drop)]
 pub(crate) enum AnyBook<O = OrderedBook, T = TableBook> {
     Ordered(Box<O>),

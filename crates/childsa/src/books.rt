@@ -1,5 +1,5 @@
 //! The commands on books.
-ghost use Rattle.std.specs.Prelude.{◌≡◌, IfOk, string_bytes};
+ghost use Rattle.std.specs.Prelude.{◌≡◌, IfOk, Some, string_bytes};
 ghost use Rattle.book.specs.Audits.{audited};
 ghost use Rattle.book.specs.Shelves.{put_in, written_in, removed_from, read_in, find as found_in, next as next_in};
 ghost use Rattle.childsa.specs.Told.{told, spi_text, read_text, rows_text, finding_text};
@@ -7,16 +7,17 @@ ghost use Rattle.childsa.specs.Told.{told, spi_text, read_text, rows_text, findi
 use crate::any_book::AnyBook;
 use crate::commands::Line;
 use crate::desk::Desk;
-use crate::row_text::{read_row, row_text};
+use crate::row_text::read_row;
 use crate::told::{Refused, Told};
 use crate::words::Words;
 use crate::wrong::{Stop, Wrong};
-use book::Book;
 use book::audit::Alone;
 use book::row::Row;
+use book::{Book, BookRefusal};
 use nonce::side::Side;
 use ordered::OrderedBook;
 use std::alloc::{AllocError, Global};
+use std::fmt;
 use table::TableBook;
 
 /// `book KIND BOOK`: starts a book with no rows.
@@ -28,7 +29,7 @@ pub(crate) fn start(line: &mut Line<'_>) -> Result<String, Stop> {
     Ok(format!(in line.words.heap; "book {side} {kind}")?)
 }
 
-/// The name of a kind, and a book of that kind with no rows.
+/// The name of a kind, and a book of that kind with no rows. A match on the word, since each makes a book of its own type.
 fn read_kind(words: &mut Words<'_>) -> Result<(&'static str, AnyBook), Stop> {
     let expected = "`ordered` or `table`";
     match words.word(expected)? {
@@ -130,6 +131,7 @@ where
 }
 
 /// Adds a row, and tells the answer.
+// a function, as the four below: a closure at `change` or `ask` would be as long, and have no contract
 fn put_in<B: Book>(heap: Global, book: &mut B, row: Row) -> Result<String, AllocError>
     ensures { IfOk result (λ s. (string_bytes s, B.Book.shelf book.new) ≡ told (put_in (B.Book.shelf book.old) row)) }
 {
@@ -154,10 +156,7 @@ fn remove_from<B: Book>(heap: Global, book: &mut B, own: u32) -> Result<String, 
 fn read_text<B: Book>(heap: Global, book: &B, own: u32) -> Result<String, AllocError>
     ensures { IfOk result (λ s. string_bytes s ≡ read_text (read_in (B.Book.shelf book.now) own)) }
 {
-    match book.read(own) {
-        Ok(row) => row_text(heap, &row),
-        Err(refusal) => Refused(refusal).to_string(heap),
-    }
+    Told(book.read(own)).to_string(heap)
 }
 
 /// What is found by a peer SPI, as text.
@@ -187,19 +186,33 @@ fn rows_text<B: Book>(heap: Global, book: &B) -> Result<String, AllocError>
 fn audit_text<P: Book, Q: Book>(heap: Global, a: &P, b: &Q) -> Result<String, AllocError>
     ensures { IfOk result (λ s. string_bytes s ≡ finding_text (audited (P.Book.shelf a.now) (Q.Book.shelf b.now))) }
 {
-    finding_text(heap, book::audit::audit(a, b))
+    Told(book::audit::audit(a, b)).to_string(heap)
 }
 
-/// What is printed of a finding.
-fn finding_text(heap: Global, finding: Option<Alone>) -> Result<String, AllocError>
-    ensures { IfOk result (λ s. string_bytes s ≡ finding_text finding) }
-{
-    let Some(Alone { side, row }) = finding else {
-        return String::from_str(heap, "all rows have their mirror");
-    };
-    let row = row_text(heap, &row)?;
-    match side {
-        Side::A => format!(in heap; "no mirror in B: {row}"),
-        Side::B => format!(in heap; "no mirror in A: {row}"),
+/// The answer to a read of a book.
+impl fmt::Display for Told<Result<Row, BookRefusal>> {
+    ghost output = { λ t. Some (read_text t.0) };
+
+    fn fmt<W: fmt::Write>(&self, f: &mut fmt::Formatter<W>) -> fmt::Result {
+        match self.0 {
+            Ok(row) => Told(row).fmt(f),
+            Err(refusal) => Refused(refusal).fmt(f),
+        }
+    }
+}
+
+/// What an audit finds.
+impl fmt::Display for Told<Option<Alone>> {
+    ghost output = { λ t. Some (finding_text t.0) };
+
+    fn fmt<W: fmt::Write>(&self, f: &mut fmt::Formatter<W>) -> fmt::Result {
+        let Some(Alone { side, row }) = self.0 else {
+            return write!(f, "all rows have their mirror");
+        };
+        let row = Told(row);
+        match side {
+            Side::A => write!(f, "no mirror in B: {row}"),
+            Side::B => write!(f, "no mirror in A: {row}"),
+        }
     }
 }

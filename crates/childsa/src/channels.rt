@@ -1,11 +1,11 @@
 //! The commands on channels.
-ghost use Rattle.std.specs.Prelude.{◌≡◌, ◌≤◌, IfOk, string_bytes};
+ghost use Rattle.std.specs.Prelude.{◌≤◌, IfOk, string_bytes};
 ghost use Rattle.childsa.specs.Piles.{BottomMade};
-ghost use Rattle.childsa.specs.Told.{sent_text, ReceivedText};
+ghost use Rattle.childsa.specs.Told.{ReceivedText};
 
-use crate::bottom::Bottom;
+use crate::any_bottom::AnyBottom;
 use crate::commands::Line;
-use crate::digits::to_hex;
+use crate::digits::Hex;
 use crate::pile;
 use crate::told::{Refused, Told};
 use crate::words::Words;
@@ -15,7 +15,6 @@ use bottoms::refusal::MakeRefusal;
 use bottoms::stack::Stack;
 use bottoms::trace::Trace;
 use channel::channel::Channel;
-use channel::sent::Sent;
 use nonce::side::Side;
 use std::alloc::{AllocError, Global};
 use std::fmt;
@@ -83,7 +82,7 @@ pub(crate) fn receive(line: &mut Line<'_>) -> Result<String, Stop> {
     let at = line.words.side()?;
     let len = read_length(&mut line.words)?;
     line.words.end()?;
-    // a channel writes to a slice of full length, so the room has no length of its own
+    // fixed memory: a channel writes into the octets of its caller, who need not know how many it takes
     let mut room = [0u8; 256];
     let channel = line.desk.channel.as_mut().ok_or(Wrong::NoChannel)?;
     Ok(received_text(line.words.heap, channel, at, &mut room[0..len])?)
@@ -99,25 +98,26 @@ fn received_text<C: Channel>(
     ensures { IfOk result (λ s. ReceivedText (C.Channel.meaning channel.old) at (string_bytes s)) }
 {
     match channel.receive(at, buffer) {
-        Some(len) => to_hex(heap, &buffer[0..len]),
+        Some(len) => Hex(&buffer[0..len]).to_string(heap),
         None => String::from_str(heap, "nothing"),
     }
 }
 
 /// A bottom in which nothing waits.
-fn new_bottom(heap: Global, wanted: Wanted<'_>) -> Result<Bottom, MakeRefusal>
+fn new_bottom(heap: Global, wanted: Wanted<'_>) -> Result<AnyBottom, MakeRefusal>
     ensures { BottomMade wanted.entry result }
 {
     match wanted {
-        Wanted::Queue { longest } => Queue::new(longest as usize).map(Bottom::Queue),
-        Wanted::Stack { longest } => Stack::new(longest as usize).map(Bottom::Stack),
+        Wanted::Queue { longest } => Queue::new(longest as usize).map(AnyBottom::Queue),
+        Wanted::Stack { longest } => Stack::new(longest as usize).map(AnyBottom::Stack),
         Wanted::Trace { longest, fates } => {
-            Trace::new(heap, longest as usize, letters_of(fates)).map(Bottom::Trace)
+            Trace::new(heap, longest as usize, letters_of(fates)).map(AnyBottom::Trace)
         }
     }
 }
 
 /// `queue N`, `stack N` or `trace N FATES`.
+// a match on the word: behind each word others are read
 fn read_wanted<'a>(words: &mut Words<'a>) -> Result<Wanted<'a>, Stop> {
     let expected = "`queue`, `stack` or `trace`";
     match words.word(expected)? {

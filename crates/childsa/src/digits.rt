@@ -1,10 +1,11 @@
 //! Octets as hexadecimal digits.
-ghost use Rattle.std.specs.Prelude.{◌≡◌, IfOk, vec_items, string_bytes};
+ghost use Rattle.std.specs.Prelude.{◌≡◌, IfOk, Some, vec_items};
 ghost use Rattle.std.specs.Option.{option_map};
 ghost use Rattle.childsa.specs.Hex.{from_hex, hex_text};
 
 use hex::FromHexError;
 use std::alloc::{AllocError, Global};
+use std::fmt;
 
 /// The octets that a text writes, two hexadecimal digits of either case for each, or nothing where it is no such text.
 pub(crate) fn from_hex(heap: Global, text: &str) -> Result<Option<Vec<u8>>, AllocError>
@@ -12,16 +13,24 @@ pub(crate) fn from_hex(heap: Global, text: &str) -> Result<Option<Vec<u8>>, Allo
 {
     match hex::decode(heap, text) {
         Ok(octets) => Ok(Some(octets)),
-        Err(refusal) => match refusal {
-            FromHexError::OutOfMemory => Err(AllocError),
-            _ => Ok(None),
-        },
+        Err(FromHexError::OutOfMemory) => Err(AllocError),
+        Err(FromHexError::OddLength) => Ok(None),
+        Err(FromHexError::InvalidStringLength) => Ok(None),
+        Err(FromHexError::InvalidHexCharacter { .. }) => Ok(None),
     }
 }
 
 /// Octets as text, two hexadecimal digits of lower case for each.
-pub(crate) fn to_hex(heap: Global, octets: &[u8]) -> Result<String, AllocError>
-    ensures { IfOk result (λ s. string_bytes s ≡ hex_text octets.now) }
-{
-    hex::encode(heap, octets)
+#[derive(Clone, Copy)]
+pub(crate) struct Hex<'a>(pub(crate) &'a [u8]);
+
+impl fmt::Display for Hex<'_> {
+    ghost output = { λ h. Some (hex_text h.0.now) };
+
+    fn fmt<W: fmt::Write>(&self, f: &mut fmt::Formatter<W>) -> fmt::Result {
+        for &octet in self.0 {
+            write!(f, "{octet:02x}")?;
+        }
+        Ok(())
+    }
 }

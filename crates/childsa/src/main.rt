@@ -4,8 +4,8 @@
 #![tactic(auto)]
 
 mod any_book;
+mod any_bottom;
 mod books;
-mod bottom;
 mod channels;
 mod commands;
 mod desk;

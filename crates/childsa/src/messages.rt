@@ -1,18 +1,18 @@
-//! The commands on messages and nonces. A message holds octets, whose text wants memory: so functions make its text, and
-//! no `Display`.
+//! The commands on messages and nonces.
 ghost use Rattle.std.specs.Prelude.{◌≡◌, IfOk, string_bytes};
 ghost use Rattle.wire.specs.Messages.{octets_of};
 ghost use Rattle.nonce.specs.Order.{lower_of, loser_in};
 ghost use Rattle.childsa.specs.Hex.{hex_text};
 ghost use Rattle.nonce.specs.Names.{side_text};
 
-use crate::digits::to_hex;
-use crate::told::Refused;
+use crate::digits::Hex;
+use crate::told::{Refused, Told};
 use crate::words::Words;
 use crate::wrong::{Stop, Wrong};
 use nonce::Nonce;
 use nonce::order::{Exchanged, compare};
 use std::alloc::{AllocError, Global};
+use std::fmt;
 use wire::header::Direction;
 use wire::message::{Body, Failure, Message, Request, Response};
 
@@ -24,7 +24,7 @@ pub(crate) fn decode(words: &mut Words<'_>) -> Result<String, Stop> {
     let octets = words.datagram()?;
     words.end()?;
     match wire::decode::decode(octets.as_slice()) {
-        Ok(message) => Ok(message_text(words.heap, &message)?),
+        Ok(message) => Ok(Told(message).to_string(words.heap)?),
         Err(refusal) => Ok(Refused(refusal).to_string(words.heap)?),
     }
 }
@@ -66,17 +66,17 @@ fn read_exchanged(words: &mut Words<'_>) -> Result<Exchanged, Stop> {
 fn octets_text(heap: Global, message: &Message<Nonce>) -> Result<String, Stop>
     ensures { IfOk result (λ s. string_bytes s ≡ hex_text (octets_of message.now)) }
 {
-    // `encode` writes to a slice of full length, so the buffer has no length of its own
+    // fixed memory: `encode` writes into the octets of its caller, who need not know how many it takes
     let mut buffer = [0u8; LONGEST];
     let len = message.encode(&mut buffer).map_err(|_| Wrong::NoRoom)?;
-    Ok(to_hex(heap, &buffer[0..len])?)
+    Ok(Hex(&buffer[0..len]).to_string(heap)?)
 }
 
 /// The lower of two nonces as text.
 fn lower_text(heap: Global, first: &Nonce, second: &Nonce) -> Result<String, AllocError>
     ensures { IfOk result (λ s. string_bytes s ≡ hex_text (lower_of first.now second.now)) }
 {
-    to_hex(heap, compare::lower(first, second))
+    Hex(compare::lower(first, second)).to_string(heap)
 }
 
 /// The end whose new SA loses, as text.
@@ -86,50 +86,58 @@ fn loser_text(heap: Global, a: &Exchanged, b: &Exchanged) -> Result<String, Allo
     compare::loser(a, b).to_string(heap)
 }
 
-/// What is printed of a message.
-fn message_text(heap: Global, message: &Message<&[u8]>) -> Result<String, AllocError> {
-    let initiator = to_hex(heap, &message.initiator.to_be_bytes())?;
-    let responder = to_hex(heap, &message.responder.to_be_bytes())?;
-    let sender = message.sender;
-    let id = message.id;
-    let (direction, kind) = match message.body {
-        Body::Request(request) => ("request", request_text(heap, request)?),
-        Body::Response(response) => ("response", response_text(heap, response)?),
-    };
-    format!(in heap; "ike {initiator} {responder} {sender} {direction} {id} {kind}")
-}
-
-/// What is printed of a request.
-fn request_text(heap: Global, request: Request<&[u8]>) -> Result<String, AllocError> {
-    match request {
-        Request::Create { spi, nonce } => {
-            let nonce = to_hex(heap, nonce)?;
-            format!(in heap; "create spi {spi} nonce {nonce}")
+impl fmt::Display for Told<Message<&[u8]>> {
+    fn fmt<W: fmt::Write>(&self, f: &mut fmt::Formatter<W>) -> fmt::Result {
+        let message = &self.0;
+        let initiator = message.initiator;
+        let responder = message.responder;
+        let sender = message.sender;
+        let id = message.id;
+        write!(f, "ike {initiator:016x} {responder:016x} {sender} ")?;
+        match message.body {
+            Body::Request(request) => {
+                let request = Told(request);
+                write!(f, "request {id} {request}")
+            }
+            Body::Response(response) => {
+                let response = Told(response);
+                write!(f, "response {id} {response}")
+            }
         }
-        Request::Rekey { old, spi, nonce } => {
-            let nonce = to_hex(heap, nonce)?;
-            format!(in heap; "rekey old {old} spi {spi} nonce {nonce}")
-        }
-        Request::Delete { spi } => format!(in heap; "delete spi {spi}"),
-        Request::Empty => String::from_str(heap, "empty"),
     }
 }
 
-/// What is printed of a response.
-fn response_text(heap: Global, response: Response<&[u8]>) -> Result<String, AllocError> {
-    match response {
-        Response::NewSa { spi, nonce } => {
-            let nonce = to_hex(heap, nonce)?;
-            format!(in heap; "new spi {spi} nonce {nonce}")
+impl fmt::Display for Told<Request<&[u8]>> {
+    fn fmt<W: fmt::Write>(&self, f: &mut fmt::Formatter<W>) -> fmt::Result {
+        match self.0 {
+            Request::Create { spi, nonce } => {
+                let nonce = Hex(nonce);
+                write!(f, "create spi {spi} nonce {nonce}")
+            }
+            Request::Rekey { old, spi, nonce } => {
+                let nonce = Hex(nonce);
+                write!(f, "rekey old {old} spi {spi} nonce {nonce}")
+            }
+            Request::Delete { spi } => write!(f, "delete spi {spi}"),
+            Request::Empty => write!(f, "empty"),
         }
-        Response::Failed(Failure::NoProposalChosen) => String::from_str(heap, "notify 14"),
-        Response::Failed(Failure::NoAdditionalSas) => String::from_str(heap, "notify 35"),
-        Response::Failed(Failure::TemporaryFailure) => String::from_str(heap, "notify 43"),
-        Response::Failed(Failure::ChildSaNotFound { spi }) => format!(in heap;
-            "notify 44 spi {spi}"
-        ),
-        Response::Delete { spi } => format!(in heap; "delete spi {spi}"),
-        Response::Empty => String::from_str(heap, "empty"),
+    }
+}
+
+impl fmt::Display for Told<Response<&[u8]>> {
+    fn fmt<W: fmt::Write>(&self, f: &mut fmt::Formatter<W>) -> fmt::Result {
+        match self.0 {
+            Response::NewSa { spi, nonce } => {
+                let nonce = Hex(nonce);
+                write!(f, "new spi {spi} nonce {nonce}")
+            }
+            Response::Failed(Failure::NoProposalChosen) => write!(f, "notify 14"),
+            Response::Failed(Failure::NoAdditionalSas) => write!(f, "notify 35"),
+            Response::Failed(Failure::TemporaryFailure) => write!(f, "notify 43"),
+            Response::Failed(Failure::ChildSaNotFound { spi }) => write!(f, "notify 44 spi {spi}"),
+            Response::Delete { spi } => write!(f, "delete spi {spi}"),
+            Response::Empty => write!(f, "empty"),
+        }
     }
 }
 
@@ -166,6 +174,7 @@ fn read_direction(words: &mut Words<'_>) -> Result<Direction, Stop> {
 }
 
 /// What a request asks for.
+// a match on the word, as in the two below: behind each word others are read
 fn read_request(words: &mut Words<'_>) -> Result<Request<Nonce>, Stop> {
     let expected = "`create`, `rekey`, `delete` or `empty`";
     match words.word(expected)? {

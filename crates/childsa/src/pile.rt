@@ -4,13 +4,14 @@ ghost use Rattle.childsa.specs.Piles.{layer_means, layered, piled};
 ghost use Rattle.channel.specs.Marking.{marked_sound};
 ghost use Rattle.childsa.specs.declared.pile.Layer.TheVariants.{Bare, Marked};
 
-use crate::bottom::Bottom;
+use crate::any_bottom::AnyBottom;
 use channel::channel::Channel;
 use channel::marker::Marker;
 use channel::sent::Sent;
 use nonce::side::Side;
 
-/// A channel with or without a marker over it, as the script chooses.
+/// A channel with or without a marker over it, as the script chooses. Each method is a match, since no function may make a
+/// `dyn Channel` and hand it out.
 #[derive(Drop)]
 pub(crate) enum Layer<C> {
     Bare(C),
@@ -18,10 +19,10 @@ pub(crate) enum Layer<C> {
 }
 
 /// A bottom with up to three markers over it. A box for each would be memory that `over` could want.
-pub(crate) type Pile = Layer<Layer<Layer<Bottom>>>;
+pub(crate) type Pile = Layer<Layer<Layer<AnyBottom>>>;
 
 /// A bottom with this many markers over it, at most three.
-pub(crate) fn over(bottom: Bottom, markers: usize) -> Pile
+pub(crate) fn over(bottom: AnyBottom, markers: usize) -> Pile
     ensures { result ≡ piled bottom markers }
 {
     let lowest = Layer::new(bottom, markers > 0);

@@ -1,58 +1,54 @@
-//! Rows in words: how they are read from a script, and printed. A row holds octets, whose text wants memory: so functions
-//! make its text, and no `Display`.
-ghost use Rattle.std.specs.Prelude.{◌≡◌, IfOk, string_bytes};
+//! Rows in words: how they are read from a script, and printed.
+ghost use Rattle.std.specs.Prelude.{◌≡◌, Some};
 ghost use Rattle.nonce.specs.Nonces.{as_nonce};
-ghost use Rattle.book.specs.Rows.{kept_octets, nr_octets};
-ghost use Rattle.childsa.specs.Told.{nonce_text, nonces_text, row_text};
+ghost use Rattle.book.specs.Rows.{nr_octets};
+ghost use Rattle.childsa.specs.Told.{nonce_text, row_text};
 
-use crate::digits::to_hex;
+use crate::digits::Hex;
 use crate::told::Told;
 use crate::words::Words;
 use crate::wrong::Stop;
 use book::row::{Beginner, KeptNonce, Row, RowState, Spis};
-use std::alloc::{AllocError, Global};
+use nonce::Nonce;
+use std::fmt;
 
-/// A nonce of a row as text.
-fn kept_text(heap: Global, kept: &KeptNonce) -> Result<String, AllocError>
-    ensures { IfOk result (λ s. string_bytes s ≡ nonce_text (as_nonce (kept_octets kept.now))) }
-{
-    match kept.nonce() {
-        Some(nonce) => to_hex(heap, nonce.as_slice()),
-        None => String::from_str(heap, "-"),
+impl fmt::Display for Told<Row> {
+    ghost output = { λ t. Some (row_text t.0) };
+
+    fn fmt<W: fmt::Write>(&self, f: &mut fmt::Formatter<W>) -> fmt::Result {
+        let row = &self.0;
+        let spis = Told(Spis {
+            own: row.own,
+            peer: row.peer,
+        });
+        let standing = Told((row.state, row.began));
+        let parent = Told(row.parent);
+        let ni = Told(row.ni.nonce());
+        let nr = Told(responder_nonce(row));
+        write!(f, "row {spis} {standing} parent {parent} ni {ni} nr {nr}")
     }
 }
 
-/// The responder's nonce of a row as text.
-fn responder_text(heap: Global, row: &Row) -> Result<String, AllocError>
-    ensures { IfOk result (λ s. string_bytes s ≡ nonce_text (as_nonce (nr_octets row.now))) }
+/// A nonce of a row, where there is one.
+impl fmt::Display for Told<Option<Nonce>> {
+    ghost output = { λ t. Some (nonce_text t.0) };
+
+    fn fmt<W: fmt::Write>(&self, f: &mut fmt::Formatter<W>) -> fmt::Result {
+        match &self.0 {
+            Some(nonce) => Hex(nonce.as_slice()).fmt(f),
+            None => write!(f, "-"),
+        }
+    }
+}
+
+/// The responder's nonce of a row: that of an Opening row counts as none.
+fn responder_nonce(row: &Row) -> Option<Nonce>
+    ensures { result ≡ as_nonce (nr_octets row.now) }
 {
     match row.state {
-        RowState::Opening => String::from_str(heap, "-"),
-        _ => kept_text(heap, &row.nr),
+        RowState::Opening => None,
+        _ => row.nr.nonce(),
     }
-}
-
-/// The nonces of a row as text.
-fn nonces_text(heap: Global, row: &Row) -> Result<String, AllocError>
-    ensures { IfOk result (λ s. string_bytes s ≡ nonces_text row.now) }
-{
-    let ni = kept_text(heap, &row.ni)?;
-    let nr = responder_text(heap, row)?;
-    format!(in heap; "ni {ni} nr {nr}")
-}
-
-/// What is printed of a row.
-pub(crate) fn row_text(heap: Global, row: &Row) -> Result<String, AllocError>
-    ensures { IfOk result (λ s. string_bytes s ≡ row_text row.now) }
-{
-    let spis = Told(Spis {
-        own: row.own,
-        peer: row.peer,
-    });
-    let standing = Told((row.state, row.began));
-    let parent = Told(row.parent);
-    let nonces = nonces_text(heap, row)?;
-    format!(in heap; "row {spis} {standing} parent {parent} {nonces}")
 }
 
 /// A row, in the words that are printed of one.

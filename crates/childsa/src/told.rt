@@ -1,5 +1,4 @@
-//! What is printed of values of other crates' types. One that holds octets is no `Display`: the crate `hex` writes them, and
-//! wants memory, so a function makes its text.
+//! What is printed of values of other crates' types.
 ghost use Rattle.std.specs.Prelude.{Some};
 ghost use Rattle.childsa.specs.Told.{refused_text, answer_text, spi_text, spis_text, state_text, sent_text};
 

@@ -35,6 +35,7 @@ impl<'a> Words<'a> {
     }
 
     /// The line is wrong: it has this word where something else was expected.
+    // never Ok; a Result, so that `?` ends it where memory does, and each caller with it
     pub(crate) fn unexpected<T>(&self, word: &str, expected: &str) -> Result<T, Stop> {
         let word = word.to_string(self.heap)?;
         let expected = expected.to_string(self.heap)?;
@@ -152,11 +153,7 @@ fn is_decimal(word: &str) -> bool
 fn ike_spi_of(octets: &[u8]) -> Option<u64>
     ensures { result ≡ ike_spi octets.now }
 {
-    if octets.len() == 8 {
-        u64_at(octets, 0)
-    } else {
-        None
-    }
+    u64_at(octets, 0).filter(|_| octets.len() == 8)
 }
 
 /// The nonce that octets stand for: one alone stands for sixteen of it.

@@ -1,5 +1,4 @@
 //! What is wrong with a line.
-use crate::told::Told;
 use nonce::side::Side;
 use std::alloc::AllocError;
 use thiserror::Error;
