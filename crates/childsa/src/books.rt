@@ -131,7 +131,7 @@ where
 }
 
 /// Adds a row, and tells the answer.
-// a function, as the four below: a closure at `change` or `ask` would be as long, and have no contract
+// one line, as in those below: a function, since its contract says what the line tells
 fn put_in<B: Book>(heap: Global, book: &mut B, row: Row) -> Result<String, AllocError>
     ensures { IfOk result (λ s. (string_bytes s, B.Book.shelf book.new) ≡ told (put_in (B.Book.shelf book.old) row)) }
 {

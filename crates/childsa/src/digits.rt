@@ -11,6 +11,7 @@ use std::fmt;
 pub(crate) fn from_hex(heap: Global, text: &str) -> Result<Option<Vec<u8>>, AllocError>
     ensures { IfOk result (λ o. option_map vec_items o ≡ from_hex text.now) }
 {
+    // each refusal by name: tried with `Err(_)`, where the proof is not told that memory is not what was wanting
     match hex::decode(heap, text) {
         Ok(octets) => Ok(Some(octets)),
         Err(FromHexError::OutOfMemory) => Err(AllocError),

@@ -35,7 +35,7 @@ impl<'a> Words<'a> {
     }
 
     /// The line is wrong: it has this word where something else was expected.
-    // never Ok; a Result, so that `?` ends it where memory does, and each caller with it
+    // never Ok; a Result, since its texts want memory: a `Stop` would need a match in the place of each `?`
     pub(crate) fn unexpected<T>(&self, word: &str, expected: &str) -> Result<T, Stop> {
         let word = word.to_string(self.heap)?;
         let expected = expected.to_string(self.heap)?;

@@ -1,4 +1,4 @@
-use Rattle.std.proofs.Common.{◌∙◌, sym, ap, get_or, take, rules, arith}
+use Rattle.std.proofs.Common.{◌∙◌, sym, ap, get_or, take, rules}
 use Rattle.std.proofs.Output.{has_written_append, has_written_of_eq}
 use Rattle.std.proofs.lemmas.List.{take_more}
 use Rattle.childsa.proofs.Agreed.{text_more}
