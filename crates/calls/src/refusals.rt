@@ -1,5 +1,4 @@
 //! Why an end turns a call down, each with its number.
-ghost use Rattle.std.specs.Prelude.{◌≡◌};
 ghost use Rattle.numbered.specs.Apart.{apart_by};
 ghost use Rattle.calls.specs.Numbers.{making_number, making_of, making_told, ask_number, ask_of, ask_told, resend_number, resend_of, resend_told, deliver_number, deliver_of, deliver_told};
 

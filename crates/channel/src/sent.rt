@@ -1,5 +1,4 @@
 //! What a send answers.
-ghost use Rattle.std.specs.Prelude.{◌≡◌};
 ghost use Rattle.numbered.specs.Apart.{apart_by};
 ghost use Rattle.channel.specs.Numbers.{sent_number, sent_of, sent_told};
 

@@ -1,8 +1,7 @@
 //! How a message is read from the octets of a datagram.
-ghost use Rattle.std.specs.Prelude.{◌≡◌, ◌≤◌, cond, ◌&&◌, length};
+ghost use Rattle.std.specs.Prelude.{◌≡◌, ◌≤◌, ◌&&◌, length};
 ghost use Rattle.std.specs.Option.{ok_or};
-ghost use Rattle.octets.specs.Numbers.{word, long};
-ghost use Rattle.nonce.specs.Nonces.{nonce_long};
+ghost use Rattle.octets.specs.Numbers.{long};
 ghost use Rattle.wire.specs.Decoding.{sized, header_in, offer_in, request_in, response_in, informational_in, body_in, decoded};
 ghost use Rattle.wire.specs.Chains.{offered};
 ghost use Rattle.wire.specs.Exact.{OneEncoding};
@@ -119,6 +118,7 @@ fn body_of(header: Header, octets: &[u8]) -> Result<Body<&[u8]>, DecodeRefusal>
         (Exchange::CreateChildSa, Direction::Answering) => {
             create_response(chain).map(Body::Response)
         }
+        // two arms alike, since a request and a response are two types
         (Exchange::Informational, Direction::Asking) => {
             let deleted = informational(chain)?;
             let request = deleted.map_or(Request::Empty, |spi| Request::Delete { spi });

@@ -1,5 +1,4 @@
 //! What the messages about Child SAs say.
-ghost use Rattle.std.specs.Prelude.{◌≡◌};
 ghost use Rattle.numbered.specs.Apart.{apart_by};
 ghost use Rattle.wire.specs.Refusals.{decode_number, decode_of, decode_told, encode_number, encode_of, encode_told};
 
@@ -43,6 +42,7 @@ pub enum Request<N> {
 }
 
 /// What a response says.
+// cases like those of a request stand here too: two types, so that no request can say what only a response says
 #[derive(Clone, Copy)]
 pub enum Response<N> {
     /// The new SA, by the responder's SPI for it.

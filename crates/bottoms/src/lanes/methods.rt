@@ -1,7 +1,7 @@
 //! How datagrams come into the lanes and leave them.
 ghost use Rattle.std.specs.Prelude.{◌≡◌, true, IfNone};
 ghost use Rattle.std.specs.Result.{result_map_both};
-ghost use Rattle.bottoms.specs.Stores.{admits, added_last, added_first, received, fresh, store_of};
+ghost use Rattle.bottoms.specs.Stores.{admits, received, fresh, store_of};
 ghost use Rattle.bottoms.specs.Fates.{fated};
 
 use crate::datagram::datagram;
