@@ -8,6 +8,7 @@ use crate::bottom::Bottom;
 use crate::rule::{Fate, Rule};
 
 /// What is sent is put before the others.
+// beside `OldestFirst`, a type each: a channel is named by its rule's type
 #[derive(Default, Drop)]
 pub struct NewestFirst;
 

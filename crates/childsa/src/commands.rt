@@ -23,8 +23,8 @@ pub(crate) fn answer(desk: &mut Desk, heap: Global, text: &str) -> Result<Option
     perform(&mut line, command).map(Some)
 }
 
-/// The answer to a command with the words behind it. A match, and no table: a table would need functions of one type, handed
-/// out as values, and no function may hand one out.
+/// The answer to a command with the words behind it. A match, and no table: some commands read words alone, others have the
+/// desk too, so that a table of functions would need one more function for each.
 fn perform(line: &mut Line<'_>, command: &str) -> Result<String, Stop> {
     match command {
         "decode" => messages::decode(&mut line.words),

@@ -37,6 +37,7 @@ impl<R: Numbered> fmt::Display for Refused<R> {
 }
 
 /// The answer to a change of a book.
+// its `Err` arm stands at a read of a book too: `()` has no text of its own that one form of both could take
 impl fmt::Display for Told<Result<(), BookRefusal>> {
     ghost output = { λ t. Some (answer_text t.0) };
 

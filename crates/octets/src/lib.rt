@@ -37,7 +37,7 @@ pub fn u64_at(s: &[u8], i: usize) -> Option<u64>
 }
 
 /// Whether two rows have the same octets.
-// `==` says that the lists are equal by std's test; this one says it octet for octet
+// no plainer than `==`, which others here write: it stays as a public function of this crate
 pub fn same(a: &[u8], b: &[u8]) -> bool
     ensures { result ≡ bytes_eq a.now b.now }
 {

@@ -10,7 +10,7 @@ use book::row::Row;
 
 pub mod methods;
 
-/// How many rows a book can have.
+/// How many rows a book of this kind can have.
 const CAPACITY: usize = 16;
 
 /// A book of at most 16 rows, by rising own SPI.

@@ -51,7 +51,7 @@ impl OrderedBook {
     }
 }
 
-// The four changes read like those of the table, and each says where the rows lie.
+// `read`, `write` and `remove` read like the table's: a form of both would be a trait below the trait, and no shorter.
 impl Book for OrderedBook {
     ghost shelf = { shelved };
 

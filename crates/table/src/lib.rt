@@ -9,7 +9,7 @@ use book::row::Row;
 pub mod methods;
 mod slots;
 
-/// How many rows a book can have.
+/// How many rows a book of this kind can have.
 const CAPACITY: usize = 16;
 
 // Slots of its own and no map of std, since a book needs no heap: fixed memory, a rule of the project.

@@ -82,6 +82,7 @@ impl TableBook {
     }
 }
 
+// `read`, `write` and `remove` read like the ordered book's: a form of both would be a trait below the trait, and no shorter.
 impl Book for TableBook {
     ghost shelf = { shelved };
 

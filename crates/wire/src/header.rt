@@ -12,7 +12,7 @@ use nonce::side::Side;
 pub(crate) const VERSION: u8 = 0x20;
 
 /// What a header says, with the type of the first payload.
-// not a part of `Message`: that has no numbers of octets, only what is said
+// IKE SPIs and ID by name, as in `Message`: what lies between differs, and a struct of three would be one more to take apart
 #[derive(Clone, Copy)]
 pub(crate) struct Header {
     pub initiator: u64,

@@ -42,7 +42,7 @@ pub enum Request<N> {
 }
 
 /// What a response says.
-// cases like those of a request stand here too: two types, so that no request can say what only a response says
+// `NewSa`, `Delete` and `Empty` are like cases of `Request`: two types, so that no request can say what only a response says
 #[derive(Clone, Copy)]
 pub enum Response<N> {
     /// The new SA, by the responder's SPI for it.
