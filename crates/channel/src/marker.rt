@@ -24,6 +24,13 @@ impl<C: Channel> Marker<C> {
         Marker { below }
     }
 
+    /// The channel below.
+    pub fn below(&self) -> &C
+        ensures { result.now ≡ self.now.below }
+    {
+        &self.below
+    }
+
     /// The channel below, given back.
     pub fn into_below(self) -> C
         ensures { result ≡ self.below }

@@ -1,5 +1,5 @@
 -- Channels: a bottom, and the markers over it.
-use Rattle.std.specs.Prelude.{◌≡◌, ℕ, Bool, true, false, Ok, Err, Result, nat_lt}
+use Rattle.std.specs.Prelude.{◌≡◌, ℕ, ◌+◌, Bool, true, false, Ok, Err, Result, nat_lt}
 use Rattle.channel.specs.Meaning.{Meaning}
 use Rattle.channel.specs.Marks.{marked}
 use Rattle.bottoms.specs.Bottoms.{queue_means, stack_means}
@@ -34,6 +34,23 @@ layered c false = Bare c
 -- a bottom with this many markers over it, at most three
 abbrev pub piled : AnyBottom → ℕ → Layer (Layer (Layer AnyBottom))
 piled c n = layered (layered (layered c (nat_lt 0 n)) (nat_lt 1 n)) (nat_lt 2 n)
+
+-- the channel below a layer
+abbrev pub below_of : {C : Type 0} → Layer C → C
+below_of (Bare c) = c
+below_of (Marked c) = c.below
+
+-- how often a layer marks what is sent
+abbrev pub marks : {C : Type 0} → Layer C → ℕ
+marks (Bare c) = 0
+marks (Marked c) = 1
+
+-- the bottom of a pile, and how many markers stand over it
+abbrev pub bottom_of : Layer (Layer (Layer AnyBottom)) → AnyBottom
+bottom_of p = below_of (below_of (below_of p))
+
+abbrev pub markers_of : Layer (Layer (Layer AnyBottom)) → ℕ
+markers_of p = marks p + marks (below_of p) + marks (below_of (below_of p))
 
 -- the longest datagram that is asked for
 abbrev pub longest_wanted : Wanted → ℕ

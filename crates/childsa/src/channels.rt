@@ -5,8 +5,9 @@ ghost use Rattle.childsa.specs.Told.{ReceivedText};
 
 use crate::any_bottom::AnyBottom;
 use crate::commands::Line;
+use crate::desk::Desk;
 use crate::digits::Hex;
-use crate::pile;
+use crate::pile::{self, Pile};
 use crate::told::{Refused, Told};
 use crate::words::Words;
 use crate::wrong::{Stop, Wrong};
@@ -37,6 +38,9 @@ impl fmt::Display for Wanted<'_> {
     }
 }
 
+/// As many markers as can stand over a bottom.
+const MOST_MARKERS: usize = 3;
+
 /// How many markers are asked for over the bottom, at most three.
 #[derive(Clone, Copy)]
 struct Markers(usize);
@@ -65,6 +69,31 @@ pub(crate) fn make(line: &mut Line<'_>) -> Result<String, Stop> {
         Err(MakeRefusal::NoMemory) => Err(AllocError.into()),
         Err(refusal) => Ok(Refused(refusal).to_string(heap)?),
     }
+}
+
+/// `mark`: puts one marker more over the channel. What waits there stays, unmarked as it is.
+pub(crate) fn mark(line: &mut Line<'_>) -> Result<String, Stop> {
+    line.words.end()?;
+    let markers = channel_of(line.desk)?.markers();
+    if markers >= MOST_MARKERS {
+        return Err(Wrong::NoMoreMarkers.into());
+    }
+    let longest = line.desk.mark(markers + 1).ok_or(Wrong::NoChannel)?;
+    Ok(format!(in line.words.heap; "marked, longest {longest}")?)
+}
+
+/// `unmark`: takes the highest marker off.
+pub(crate) fn unmark(line: &mut Line<'_>) -> Result<String, Stop> {
+    line.words.end()?;
+    let markers = channel_of(line.desk)?.markers();
+    let fewer = markers.checked_sub(1).ok_or(Wrong::NoMarker)?;
+    let longest = line.desk.mark(fewer).ok_or(Wrong::NoChannel)?;
+    Ok(format!(in line.words.heap; "unmarked, longest {longest}")?)
+}
+
+/// The channel, where there is one.
+fn channel_of(desk: &Desk) -> Result<&Pile, Wrong> {
+    desk.channel.as_ref().ok_or(Wrong::NoChannel)
 }
 
 /// `send END HEX`: sends a datagram to an end.
@@ -150,7 +179,7 @@ fn letters_of(fates: &str) -> &[u8] {
 
 /// `marker`, up to three times before the end of the line.
 fn read_markers(words: &mut Words<'_>) -> Result<Markers, Stop> {
-    for markers in 0..3 {
+    for markers in 0..MOST_MARKERS {
         match words.next() {
             Some("marker") => {}
             Some(word) => return words.unexpected(word, "`marker` or the end of the line"),
@@ -158,7 +187,7 @@ fn read_markers(words: &mut Words<'_>) -> Result<Markers, Stop> {
         }
     }
     words.end()?;
-    Ok(Markers(3))
+    Ok(Markers(MOST_MARKERS))
 }
 
 /// The length of a buffer, or 256 where none is given.

@@ -41,6 +41,8 @@ fn perform(line: &mut Line<'_>, command: &str) -> Result<String, Stop> {
         "rows" => books::rows(line),
         "audit" => books::audit(line),
         "channel" => channels::make(line),
+        "mark" => channels::mark(line),
+        "unmark" => channels::unmark(line),
         "send" => channels::send(line),
         "receive" => channels::receive(line),
         "help" => help(&mut line.words),

@@ -1,10 +1,12 @@
 //! What a script works on.
 ghost use Rattle.std.specs.Prelude.{◌≡◌};
 ghost use Rattle.std.specs.Option.{option_map};
-ghost use Rattle.childsa.specs.Desks.{empty_desk, book_at, with_book};
+ghost use Rattle.childsa.specs.Piles.{pile_means};
+ghost use Rattle.childsa.specs.Desks.{empty_desk, book_at, with_book, with_markers};
 
 use crate::any_book::AnyBook;
 use crate::pile::Pile;
+use channel::channel::Channel;
 use nonce::both::Both;
 use nonce::side::Side;
 
@@ -35,6 +37,18 @@ impl Desk {
         ensures { option_map (λ x. x.now) result ≡ book_at self.now name }
     {
         self.books.at(name).as_ref()
+    }
+
+    /// Puts this many markers over the bottom of the channel, in the place of those that are there, and tells the longest
+    /// datagram then.
+    pub(crate) fn mark(&mut self, markers: usize) -> Option<usize>
+        ensures desk { self.new ≡ with_markers self.old markers }
+        ensures longest { result ≡ option_map (λ p. (pile_means p).longest) self.new.channel }
+    {
+        let pile = self.channel.take()?.with_markers(markers);
+        let longest = pile.longest();
+        self.channel = Some(pile);
+        Some(longest)
     }
 
     /// The book of a name, to change it: beside `book`, as `as_mut` is beside `as_ref`.

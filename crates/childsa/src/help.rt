@@ -17,6 +17,8 @@ next BOOK OWN        the lowest own SPI above this one, or none
 rows BOOK            how many rows there are, and how many there can be
 audit                the first row of A, then of B, that has no mirror in the other book, or that all have
 channel BOTTOM       makes the channel, and says its longest datagram; marker behind it, up to three times, adds layers
+mark                 puts one marker more over the channel; what waits there stays unmarked, and a receive drops it
+unmark               takes the highest marker off the channel
 send END HEX         sends a datagram to A or B: taken, or not taken; - is no octets
 receive END          the datagram that comes to A or B, or nothing
 receive END N        the same into a buffer of N octets, 0 to 256

@@ -1,6 +1,6 @@
 //! A bottom with the markers over it.
-ghost use Rattle.std.specs.Prelude.{◌≡◌};
-ghost use Rattle.childsa.specs.Piles.{layer_means, layered, piled};
+ghost use Rattle.std.specs.Prelude.{◌≡◌, ◌≤◌};
+ghost use Rattle.childsa.specs.Piles.{layer_means, layered, piled, below_of, marks, markers_of, bottom_of};
 ghost use Rattle.channel.specs.Marking.{marked_sound};
 ghost use Rattle.childsa.specs.declared.pile.Layer.TheVariants.{Bare, Marked};
 
@@ -23,11 +23,32 @@ pub(crate) type Pile = Layer<Layer<Layer<AnyBottom>>>;
 
 /// A bottom with this many markers over it, at most three.
 pub(crate) fn over(bottom: AnyBottom, markers: usize) -> Pile
-    ensures { result ≡ piled bottom markers }
+    ensures pile { result ≡ piled bottom markers }
+    ensures bottom { bottom_of result ≡ bottom }
+    ensures markers { markers ≤ 3 → markers_of result ≡ markers }
 {
     let lowest = Layer::new(bottom, markers > 0);
     let middle = Layer::new(lowest, markers > 1);
     Layer::new(middle, markers > 2)
+}
+
+impl Pile {
+    /// How many markers stand over the bottom.
+    pub(crate) fn markers(&self) -> usize
+        ensures { result ≡ markers_of self.now }
+    {
+        let middle = self.below();
+        let lowest = middle.below();
+        self.marks() + middle.marks() + lowest.marks()
+    }
+
+    /// The same bottom with this many markers over it, at most three. What waits there stays.
+    pub(crate) fn with_markers(self, markers: usize) -> Pile
+        ensures { result ≡ piled (bottom_of self) markers }
+    {
+        let bottom = self.into_below().into_below().into_below();
+        over(bottom, markers)
+    }
 }
 
 impl<C: Channel> Layer<C> {
@@ -39,6 +60,36 @@ impl<C: Channel> Layer<C> {
             Layer::Marked(Marker::over(channel))
         } else {
             Layer::Bare(channel)
+        }
+    }
+
+    /// How often this layer marks what is sent: once, or not at all.
+    fn marks(&self) -> usize
+        ensures { result ≡ marks self.now }
+    {
+        match self {
+            Layer::Bare(_) => 0,
+            Layer::Marked(_) => 1,
+        }
+    }
+
+    /// The channel below this layer.
+    fn below(&self) -> &C
+        ensures { result.now ≡ below_of self.now }
+    {
+        match self {
+            Layer::Bare(channel) => channel,
+            Layer::Marked(marker) => marker.below(),
+        }
+    }
+
+    /// The channel below this layer, given back.
+    fn into_below(self) -> C
+        ensures { result ≡ below_of self }
+    {
+        match self {
+            Layer::Bare(channel) => channel,
+            Layer::Marked(marker) => marker.into_below(),
         }
     }
 }

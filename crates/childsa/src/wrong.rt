@@ -36,6 +36,10 @@ pub(crate) enum Wrong {
     NoBook(Side),
     #[error("there is no channel; make one with `channel queue 160`, for example")]
     NoChannel,
+    #[error("three markers stand over the channel: there is no place for one more")]
+    NoMoreMarkers,
+    #[error("no marker stands over the channel")]
+    NoMarker,
     #[error("a buffer has 0 to 256 octets here, this has {0}")]
     BufferLength(u32),
 }
