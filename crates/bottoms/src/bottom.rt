@@ -3,7 +3,7 @@ ghost use Rattle.std.specs.Prelude.{◌≡◌, ◌<◌, cond, [], length, None, 
 ghost use Rattle.std.specs.Result.{result_map_both};
 ghost use Rattle.channel.specs.Meaning.{Within};
 ghost use Rattle.channel.specs.Effects.{SentAs, ReceivedAs};
-ghost use Rattle.bottoms.specs.Stores.{admits, received, fresh, store_of};
+ghost use Rattle.bottoms.specs.Stores.{list_at, admits, received, fresh, store_of};
 ghost use Rattle.bottoms.specs.Bottoms.{means};
 ghost use Rattle.bottoms.specs.Fates.{sent_by};
 ghost use Rattle.bottoms.specs.Holding.{holding_sound};
@@ -33,6 +33,15 @@ impl<R: Rule + Default> Bottom<R> {
             lanes,
             rule: R::default(),
         })
+    }
+}
+
+impl<R> Bottom<R> {
+    /// How many datagrams wait at an end.
+    pub fn waiting(&self, at: Side) -> usize
+        ensures { result ≡ length (list_at (store_of self.now.lanes) at) }
+    {
+        self.lanes.waiting(at)
     }
 }
 

@@ -93,6 +93,7 @@ fn order(rt: HostRuntime) -> Result<(), Fail> {
 fn fates(rt: HostRuntime) -> Result<(), Fail> {
     let mut trace = Trace::new(rt.alloc(), 64, b"pl2j")?;
     send_all(&mut trace, b"abcde");
+    assert_eq!(rt; (trace.waiting(Side::A), trace.waiting(Side::B)), (0, 5));
     assert_eq!(rt; next(&mut trace, Side::B), Some((1, b'd')));
     assert_eq!(rt; next(&mut trace, Side::B), Some((1, b'a')));
     assert_eq!(rt; next(&mut trace, Side::B), Some((1, b'c')));

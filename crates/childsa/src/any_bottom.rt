@@ -1,4 +1,5 @@
 //! A bottom of any kind.
+ghost use Rattle.std.specs.Prelude.{◌≡◌, length};
 ghost use Rattle.bottoms.specs.Holding.{holding_sound};
 ghost use Rattle.childsa.specs.Piles.{bottom_means};
 ghost use Rattle.childsa.specs.declared.any_bottom.AnyBottom.TheVariants.{Queue as IsQueue, Stack as IsStack, Trace as IsTrace};
@@ -17,6 +18,19 @@ pub(crate) enum AnyBottom {
     Queue(Queue),
     Stack(Stack),
     Trace(Trace),
+}
+
+impl AnyBottom {
+    /// How many datagrams wait at an end.
+    pub(crate) fn waiting(&self, at: Side) -> usize
+        ensures { result ≡ length ((bottom_means self.now).waiting at) }
+    {
+        match self {
+            AnyBottom::Queue(channel) => channel.waiting(at),
+            AnyBottom::Stack(channel) => channel.waiting(at),
+            AnyBottom::Trace(channel) => channel.waiting(at),
+        }
+    }
 }
 
 impl Channel for AnyBottom {

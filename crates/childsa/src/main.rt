@@ -15,6 +15,7 @@ mod help;
 mod messages;
 mod pile;
 mod row_text;
+mod tap;
 mod told;
 mod words;
 mod wrong;

@@ -1,6 +1,6 @@
 //! A bottom with the markers over it.
-ghost use Rattle.std.specs.Prelude.{◌≡◌, ◌≤◌};
-ghost use Rattle.childsa.specs.Piles.{layer_means, layered, piled, below_of, marks, markers_of, bottom_of};
+ghost use Rattle.std.specs.Prelude.{◌≡◌, ◌≤◌, length};
+ghost use Rattle.childsa.specs.Piles.{bottom_means, layer_means, layered, piled, below_of, marks, markers_of, bottom_of};
 ghost use Rattle.channel.specs.Marking.{marked_sound};
 ghost use Rattle.childsa.specs.declared.pile.Layer.TheVariants.{Bare, Marked};
 
@@ -40,6 +40,13 @@ impl Pile {
         let middle = self.below();
         let lowest = middle.below();
         self.marks() + middle.marks() + lowest.marks()
+    }
+
+    /// How many datagrams wait at an end, marked or not.
+    pub(crate) fn waiting(&self, at: Side) -> usize
+        ensures { result ≡ length ((bottom_means (bottom_of self.now)).waiting at) }
+    {
+        self.below().below().below().waiting(at)
     }
 
     /// The same bottom with this many markers over it, at most three. What waits there stays.

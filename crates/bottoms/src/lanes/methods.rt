@@ -1,7 +1,7 @@
 //! How datagrams come into the lanes and leave them.
-ghost use Rattle.std.specs.Prelude.{◌≡◌, true, IfNone};
+ghost use Rattle.std.specs.Prelude.{◌≡◌, true, length, IfNone};
 ghost use Rattle.std.specs.Result.{result_map_both};
-ghost use Rattle.bottoms.specs.Stores.{admits, received, fresh, store_of};
+ghost use Rattle.bottoms.specs.Stores.{list_at, admits, received, fresh, store_of};
 ghost use Rattle.bottoms.specs.Fates.{fated};
 
 use crate::datagram::datagram;
@@ -30,6 +30,13 @@ impl Lanes {
         ensures { result ≡ (store_of self.now).longest }
     {
         self.longest
+    }
+
+    /// How many datagrams wait at an end.
+    pub(crate) fn waiting(&self, at: Side) -> usize
+        ensures { result ≡ length (list_at (store_of self.now) at) }
+    {
+        self.lists.at(at).len()
     }
 
     /// Whether these octets have the length of a datagram, and there is a place for them.
