@@ -110,23 +110,26 @@ fn kinds_of(sender: Side, body: &Body<Nonce>) -> [u8; 4]
     ]
 }
 
-/// The octets of a message.
-fn text_of(message: &Message<Nonce>) -> ArrayVec<u8, 160>
-    ensures octets { result.items ≡ octets_of message.now }
-    ensures valid { Valid message.now }
-{
-    let payloads = payloads_of(&message.body);
-    let mut text = ArrayVec::new();
-    push(&mut text, &message.initiator.to_be_bytes());
-    push(&mut text, &message.responder.to_be_bytes());
-    push(&mut text, &kinds_of(message.sender, &message.body));
-    push(&mut text, &message.id.to_be_bytes());
-    push(&mut text, &(28 + payloads.len() as u32).to_be_bytes());
-    push(&mut text, payloads.as_slice());
-    text
-}
+/// Room for the octets of any message.
+pub type Octets = ArrayVec<u8, 160>;
 
 impl Message<Nonce> {
+    /// The octets of the message.
+    pub fn octets(&self) -> Octets
+        ensures octets { result.items ≡ octets_of self.now }
+        ensures valid { Valid self.now }
+    {
+        let payloads = payloads_of(&self.body);
+        let mut text = ArrayVec::new();
+        push(&mut text, &self.initiator.to_be_bytes());
+        push(&mut text, &self.responder.to_be_bytes());
+        push(&mut text, &kinds_of(self.sender, &self.body));
+        push(&mut text, &self.id.to_be_bytes());
+        push(&mut text, &(28 + payloads.len() as u32).to_be_bytes());
+        push(&mut text, payloads.as_slice());
+        text
+    }
+
     /// Writes the message to the front of a buffer and says how many octets it has, or refuses where the buffer is too
     /// short for it. Octets behind it, and the whole buffer at a refusal, stay as they were.
     #[tactic(auto, unfolding(crate::specs::Encoding::written, crate::specs::Encoding::overwritten))]
@@ -135,7 +138,7 @@ impl Message<Nonce> {
         ensures buffer { out.new ≡ overwritten self.now out.old }
         ensures valid { Valid self.now }
     {
-        let text = text_of(self);
+        let text = self.octets();
         let len = text.len();
         if out.len() < len {
             return Err(EncodeRefusal::BufferTooShort);

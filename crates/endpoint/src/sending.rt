@@ -1,0 +1,52 @@
+//! How an end sends, and takes what has come.
+ghost use Rattle.std.specs.Prelude.{◌≡◌};
+ghost use Rattle.std.specs.Option.{option_map};
+ghost use Rattle.law.specs.Effects.{Comes, Replies};
+ghost use Rattle.endpoint.specs.Reactions.{said};
+ghost use Rattle.channel.specs.Meaning.{other as across};
+
+use crate::Endpoint;
+use crate::reaction::Says;
+use book::Book;
+use channel::channel::Channel;
+use channel::sent::Sent;
+use nonce::side::Side;
+
+/// The end across.
+fn other(side: Side) -> Side
+    ensures { result ≡ across side }
+{
+    match side {
+        Side::A => Side::B,
+        Side::B => Side::A,
+    }
+}
+
+/// What has come to an end, if anything.
+pub(crate) fn take<'a, C: Channel>(
+    channel: &mut C,
+    at: Side,
+    room: &'a mut [u8; 256],
+) -> Option<&'a [u8]>
+    ensures { Comes C.Channel.meaning channel.old channel.new at (option_map (λ s. s.now) result) }
+{
+    let len = channel.receive(at, room)?;
+    Some(&room[..len])
+}
+
+impl<B: Book> Endpoint<B> {
+    /// Sends to the peer. This is the one place where an end sends. What is not said counts as taken.
+    pub(crate) fn say<C: Channel>(&self, says: Says, channel: &mut C) -> Sent
+        ensures { Replies C.Channel.meaning self.now.side channel.old (said says self.now) result channel.new }
+    {
+        let octets = match says {
+            Says::Nothing => None,
+            Says::Reply => self.reply.as_ref(),
+            Says::Request => self.outstanding.map(|_| &self.request),
+        };
+        match octets {
+            Some(octets) => channel.send(other(self.side), octets.as_slice()),
+            None => Sent::Taken,
+        }
+    }
+}
