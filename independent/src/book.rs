@@ -85,11 +85,9 @@ impl Row {
         if self.is_opening() { None } else { self.kept_responder_nonce.as_ref() }
     }
 
-    /// Whether both rows are of one SA, each as its end sees it. An Opening row is nobody's mirror.
+    /// Whether both rows are of one SA, each as its end sees it; the states do not matter.
     pub fn mirrors(&self, other: &Row) -> bool {
-        !self.is_opening()
-            && !other.is_opening()
-            && self.spis == other.spis.exchanged()
+        self.spis == other.spis.exchanged()
             && self.parent == other.parent.exchanged()
             && self.began != other.began
             && self.initiator_nonce == other.initiator_nonce
@@ -226,11 +224,11 @@ impl Book {
         }
     }
 
-    /// The first row by rising own SPI that has no mirror in the other book.
+    /// The first row by rising own SPI that has no mirror in the other book. An Opening row has none.
     fn first_without_mirror(&self, other: &Book) -> Option<&Row> {
         self.rows().find(|row| {
             let mirror = other.rows.get(&row.spis.peer);
-            !mirror.is_some_and(|mirror| row.mirrors(mirror))
+            row.is_opening() || !mirror.is_some_and(|mirror| row.mirrors(mirror))
         })
     }
 }
