@@ -16,10 +16,10 @@ pub enum RowState {
     /// This end asked for it, and has no answer yet.
     #[default]
     Opening = 1,
-    /// It was made, and the exchange that made it may still collide with another.
+    /// It was made here for the peer, which has not shown yet that it knows of it.
     Fresh = 2,
     Standing = 3,
-    /// A rekeying put another into its place.
+    /// The peer's rekey of it was answered with a new SA.
     Superseded = 4,
     /// This end asked for its end.
     Closing = 5,

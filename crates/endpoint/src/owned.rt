@@ -15,6 +15,7 @@ fn nonce_of(octets: &[u8]) -> Nonce
     Nonce::new(octets).unwrap()
 }
 
+/// The same request, its nonce in a place of its own.
 fn request_of(request: Request<&[u8]>) -> Request<Nonce>
     requires { ValidRequest (plain_request (λ n. n.now) request) }
     ensures { result ≡ plain_request (λ n. n.now) request.entry }
@@ -34,6 +35,7 @@ fn request_of(request: Request<&[u8]>) -> Request<Nonce>
     }
 }
 
+/// The same response, its nonce in a place of its own.
 fn response_of(response: Response<&[u8]>) -> Response<Nonce>
     requires { ValidResponse (plain_response (λ n. n.now) response) }
     ensures { result ≡ plain_response (λ n. n.now) response.entry }

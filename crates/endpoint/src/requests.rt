@@ -82,6 +82,7 @@ impl<B: Book> Endpoint<B> {
         });
     }
 
+    /// The answer to a create, with the nonces of the peer and of this end.
     fn answer_create(&mut self, peer: u32, ni: &Nonce, nr: &Nonce)
         requires { self.old.expected < 2 ^ 32 }
         ensures { IsSaid (create_answered self.old self.old.shelf peer ni.now nr.now) self.new }
@@ -131,6 +132,7 @@ impl<B: Book> Endpoint<B> {
         self.make(peer, parent, ni, nr);
     }
 
+    /// The answer to a rekey of the SA that the peer knows as `old`.
     fn answer_rekey(&mut self, old: u32, peer: u32, ni: &Nonce, nr: &Nonce)
         requires { self.old.expected < 2 ^ 32 }
         ensures { IsSaid (rekey_found self.old self.old.shelf old peer ni.now nr.now (found self.old.shelf.rows old)) self.new }
@@ -146,6 +148,7 @@ impl<B: Book> Endpoint<B> {
         }
     }
 
+    /// The answer to a Delete of the SA that the peer knows by this SPI.
     fn answer_delete(&mut self, peer: u32)
         requires { self.old.expected < 2 ^ 32 }
         ensures { IsSaid (delete_found self.old self.old.shelf (found self.old.shelf.rows peer)) self.new }

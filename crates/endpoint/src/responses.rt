@@ -12,7 +12,6 @@ ghost use Rattle.endpoint.specs.Reactions.{heard_by, Stays};
 ghost use Rattle.endpoint.specs.Settlings.{SettledAs, collision_in, remade, IsOutstanding};
 
 use crate::Endpoint;
-use crate::outstanding::Outstanding;
 use crate::reaction::{Reaction, Says};
 use crate::rows::{in_state, made_row};
 use book::Book;
@@ -112,54 +111,21 @@ impl<B: Book> Endpoint<B> {
         ensures stays { Stays result self.old self.new }
         ensures side { self.new.side ≡ self.old.side }
     {
-        let says = match (self.outstanding, response) {
+        let outstanding = self.outstanding.filter(|o| o.id == id);
+        let says = match (outstanding.map(|o| (o.kind, o)), response) {
             (None, _) => return Reaction::Refused(DeliverRefusal::WrongId),
-            (Some(o), _) if o.id != id => return Reaction::Refused(DeliverRefusal::WrongId),
-            (
-                Some(
-                    Outstanding {
-                        kind: Kind::Create,
-                        own,
-                        ..
-                    },
-                ),
-                Response::NewSa { spi, nonce },
-            ) if !self.is_unusable(spi) => self.stand(own, spi, &nonce),
-            (
-                Some(
-                    Outstanding {
-                        kind: Kind::Rekey,
-                        own,
-                        old,
-                        ..
-                    },
-                ),
-                Response::NewSa { spi, nonce },
-            ) if !self.is_unusable(spi) => self.replace(own, old, spi, &nonce),
-            (
-                Some(
-                    Outstanding {
-                        kind: Kind::Rekey,
-                        own,
-                        old,
-                        ..
-                    },
-                ),
-                Response::Failed(Failure::ChildSaNotFound { .. }),
-            ) => {
-                self.discard(own);
-                self.give_up(old)
+            (Some((Kind::Create, o)), Response::NewSa { spi, nonce }) if !self.is_unusable(spi) => {
+                self.stand(o.own, spi, &nonce)
             }
-            (
-                Some(
-                    Outstanding {
-                        kind: Kind::Check,
-                        ..
-                    },
-                ),
-                _,
-            ) => self.rest(),
-            (Some(o), _) => self.give_up(o.own),
+            (Some((Kind::Rekey, o)), Response::NewSa { spi, nonce }) if !self.is_unusable(spi) => {
+                self.replace(o.own, o.old, spi, &nonce)
+            }
+            (Some((Kind::Rekey, o)), Response::Failed(Failure::ChildSaNotFound { .. })) => {
+                self.discard(o.own);
+                self.give_up(o.old)
+            }
+            (Some((Kind::Check, _)), _) => self.rest(),
+            (Some((_, o)), _) => self.give_up(o.own),
         };
         Reaction::Done(says)
     }

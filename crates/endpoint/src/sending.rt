@@ -42,7 +42,7 @@ impl<B: Book> Endpoint<B> {
         let octets = match says {
             Says::Nothing => None,
             Says::Reply => self.reply.as_ref(),
-            Says::Request => self.outstanding.map(|_| &self.request),
+            Says::Request => self.outstanding.and(Some(&self.request)),
         };
         match octets {
             Some(octets) => channel.send(other(self.side), octets.as_slice()),

@@ -160,7 +160,7 @@ pub record HoldsTwo (m : Meaning) : Type 0 where
 pub record Law {C : Type 0} (meaning : C → Meaning) (v : World C) (ms : List (Move (List ℕ))) (rs : List Answer) (w : World C) (h : Run meaning v ms rs w) : Type 0 where
   -- whenever both ends are quiet, every row of either book has its mirror in the other
   pub mirrors : Quiet w → (s : Side) → Mirrored s w
-  -- and of what was rekeyed the successor is in both books, and nothing else is in either
+  -- and what was rekeyed, and the loser of a collision, is in neither book; every successor is in both, unless it was given up
   pub succession : Quiet w → (s : Side) → Succession s (λ F. ever meaning F v ms rs w h) (GaveUp ms rs) w
   -- without a resend, over a channel that holds two messages for each end, both are quiet eight rounds after the last accepted ask
   pub rest : HoldsTwo (meaning v.channel) → WithoutResend ms → 8 ≤ rounds_since ms rs → Quiet w

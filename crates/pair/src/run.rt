@@ -1,5 +1,5 @@
 //! Calls of two ends, one after the other.
-ghost use Rattle.std.specs.Prelude.{◌≡◌, IfOk, IfErr};
+ghost use Rattle.std.specs.Prelude.{◌≡◌, [], ◌∷◌, IfOk, IfErr};
 ghost use Rattle.calls.specs.Plain.{plain_call, plain_move, plain_moves};
 ghost use Rattle.law.specs.Runs.{Called, Step};
 ghost use Rattle.law.specs.Laws.{Lawful, GoesOn};
@@ -29,7 +29,7 @@ fn call_of<B: Book, C: Channel>(end: &mut Endpoint<B>, channel: &mut C, call: Ca
 }
 
 impl<P: Book, Q: Book, C: Channel> Pair<P, Q, C> {
-    /// A call of one of the two ends.
+    /// What a call of one of the two ends does.
     fn step(&mut self, next: Move<&[u8]>) -> Answer
         ensures { Step C.Channel.meaning (world self.old) (plain_move next.entry) result (world self.new) }
     {
@@ -39,10 +39,19 @@ impl<P: Book, Q: Book, C: Channel> Pair<P, Q, C> {
         }
     }
 
+    /// A call of one of the two ends. Whatever was called before, all of it together keeps the law, as it does with `run`.
+    pub fn call(&mut self, next: Move<&[u8]>) -> Answer
+        ensures step { Step C.Channel.meaning (world self.old) (plain_move next.entry) result (world self.new) }
+        ensures goes_on { GoesOn C.Channel.meaning (world self.old) (plain_move next.entry ∷ []) (result ∷ []) (world self.new) }
+    {
+        self.step(next)
+    }
+
     /// Makes each call in turn, and gives their answers. Where there is no memory for these, no call is made.
     ///
     /// What happens keeps the law of two ends, over any channel and any books: at every moment of a run from the making of both
-    /// ends, over a channel from which nothing may come, mirrors, succession and rest hold.
+    /// ends, over a channel from which nothing may come, mirrors, succession and rest hold. `law` says so of these calls where they
+    /// are the first, `goes_on` of them together with those before.
     pub fn run(&mut self, heap: Global, moves: &[Move<&[u8]>]) -> Result<Vec<Answer>, AllocError>
         ensures law { IfOk result (λ answers. Lawful C.Channel.meaning (world self.old) (plain_moves moves.now) answers.items (world self.new)) }
         ensures goes_on { IfOk result (λ answers. GoesOn C.Channel.meaning (world self.old) (plain_moves moves.now) answers.items (world self.new)) }
