@@ -55,9 +55,11 @@ abbrev pub Filed : List Row → Type 0
 Filed [] = Unit {0}
 Filed (r ∷ rs) = (nonce_long (kept_octets r.ni) ≡ true) × Filed rs
 
--- IDs and SPIs run to 2 ^ 32 - 1, or are spent; an ID is left for each Delete that is still to come.
+-- IDs and SPIs run to 2 ^ 32 - 1, or are spent; an ID is left for each Delete that is still to come. Only an outstanding
+-- request has recorded a collision.
 pub record Kept {B : Type 0} (shelf : B → Shelf) (e : Inside B) : Type 0 where
   pub next : e.next + spared e.outstanding ≤ 2 ^ 32
   pub expected : e.expected ≤ 2 ^ 32
   pub spi : e.spi ≤ 2 ^ 32
   pub filed : Filed (shelf e.book).rows
+  pub alone : e.outstanding ≡ None → e.collision ≡ None

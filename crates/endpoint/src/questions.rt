@@ -46,7 +46,7 @@ impl<B: Book> Endpoint<B> {
     pub fn has_collision(&self) -> bool
         ensures { result ≡ has_collision self.now.outstanding }
     {
-        self.outstanding.is_some() && self.collision.is_some()
+        self.collision.is_some()
     }
 
     /// The book.

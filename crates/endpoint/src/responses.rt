@@ -30,6 +30,7 @@ impl<B: Book> Endpoint<B> {
         ensures { SettledAs (rests self.old self.old.shelf) result self.new }
     {
         self.outstanding = None;
+        self.collision = None;
         Says::Nothing
     }
 
@@ -54,8 +55,7 @@ impl<B: Book> Endpoint<B> {
 
     /// Whether the new SA of this end's rekey, which has this row, is the loser of a recorded collision.
     fn loses(&self, row: &Row, nr: &Nonce) -> bool
-        requires busy { self.now.outstanding ≡ None → ⊥ }
-        requires long { nonce_long (kept_octets row.now.ni) ≡ true }
+        requires { nonce_long (kept_octets row.now.ni) ≡ true }
         ensures { result ≡ loses self.now.side row.now nr.now (collision_in self.now.outstanding) }
     {
         let Some(theirs) = self.collision else {

@@ -90,9 +90,9 @@ abbrev pub making_refused : Making → Shelf → Option MakingRefusal
 making_refused m s =
     cond (length s.rows == 0) (cond (making_reserved m) (Some ReservedSpi) None) (Some BookNotEmpty)
 
-abbrev pub made_unless : Option MakingRefusal → End → Result End MakingRefusal
-made_unless None e = Ok e
-made_unless (Some f) e = Err f
+abbrev pub made_unless : {W : Type 0} → Option MakingRefusal → W → Result W MakingRefusal
+made_unless None w = Ok w
+made_unless (Some f) w = Err f
 
 -- the end of a side over this book, or why there is none
 abbrev pub made : Making → Side → Shelf → Result End MakingRefusal

@@ -70,6 +70,10 @@ pub record Fit (m : Making) : Type 0 where
   pub least_a : 256 ≤ m.a.spi
   pub least_b : 256 ≤ m.b.spi
 
+-- nothing may come from a channel
+abbrev pub Clean : {C : Type 0} → (C → Meaning) → C → Type 0
+Clean meaning c = (e : Side) (d : List ℕ) → (meaning c).may e d → ⊥
+
 -- both ends as they are made, over a channel from which nothing may come
 pub record Start {C : Type 0} (meaning : C → Meaning) (v : World C) : Type 0 where
   pub making : Making
@@ -78,7 +82,7 @@ pub record Start {C : Type 0} (meaning : C → Meaning) (v : World C) : Type 0 w
   pub fit : Fit making
   pub a : v.a ≡ made_end making A most_a
   pub b : v.b ≡ made_end making B most_b
-  pub clean : (e : Side) (d : List ℕ) → (meaning v.channel).may e d → ⊥
+  pub clean : Clean meaning v.channel
 
 -- at some moment of the run
 abbrev pub ever : {C : Type 0} (meaning : C → Meaning) → (World C → Type 0) → (v : World C) (ms : List (Move (List ℕ))) (rs : List Answer) (w : World C) → Run meaning v ms rs w → Type 0

@@ -7,7 +7,7 @@ use Rattle.channel.specs.Meaning.{Meaning}
 use Rattle.calls.specs.declared.making.Making.{Making}
 use Rattle.calls.specs.declared.refusals.MakingRefusal.{MakingRefusal}
 use Rattle.calls.specs.declared.refusals.MakingRefusal.TheVariants.{ReservedSpi, BookNotEmpty}
-use Rattle.law.specs.Ends.{made_end, making_reserved}
+use Rattle.law.specs.Ends.{made_end, made_unless, making_reserved}
 use Rattle.law.specs.Runs.{World}
 use Rattle.pair.specs.declared.Pair.{Pair}
 
@@ -23,15 +23,7 @@ abbrev pub pair_refused : Making → Shelf → Shelf → Option MakingRefusal
 pair_refused m s t =
     cond (is_empty s && is_empty t) (cond (making_reserved m) (Some ReservedSpi) None) (Some BookNotEmpty)
 
-abbrev pub made_unless : {W : Type 0} → Option MakingRefusal → W → Result W MakingRefusal
-made_unless None w = Ok w
-made_unless (Some f) w = Err f
-
 -- both ends as they are made, or why there are none
 abbrev pub made_world : {C : Type 0} → Making → Shelf → Shelf → C → Result (World C) MakingRefusal
 made_world m s t c =
     made_unless (pair_refused m s t) (record { a = made_end m A s.most; b = made_end m B t.most; channel = c })
-
--- nothing may come from the channel
-abbrev pub Clean : {C : Type 0} → (C → Meaning) → C → Type 0
-Clean meaning c = (e : Side) (d : List ℕ) → (meaning c).may e d → ⊥

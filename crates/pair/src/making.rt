@@ -1,8 +1,8 @@
 //! How two ends are made over a channel.
 ghost use Rattle.std.specs.Prelude.{◌≡◌, IfOk, IfErr};
 ghost use Rattle.std.specs.Result.{result_map_both};
-ghost use Rattle.law.specs.Runs.{Start};
-ghost use Rattle.pair.specs.Worlds.{world, made_world, Clean};
+ghost use Rattle.law.specs.Runs.{Clean, Start};
+ghost use Rattle.pair.specs.Worlds.{world, made_world};
 
 use crate::Pair;
 use book::Book;

@@ -1,4 +1,4 @@
-use Rattle.std.proofs.Common.{rules, arith, ◌≡◌, [], None}
+use Rattle.std.proofs.Common.{rules, arith, ◌≡◌, [], None, refl}
 use Rattle.law.specs.Ends.{making_refused}
 use Rattle.endpoint.proofs.Emptied.{none_filed}
 use Rattle.endpoint.proofs.Endpoint.new.Goals as goal
@@ -12,4 +12,5 @@ invariant_of-result g c =
       expected = omega (arith, c.wide-2.ensures.left);
       spi = omega (arith, c.wide-3.ensures.left);
       filed = rw l tt;
+      alone = λ _. refl;
     }
