@@ -1,0 +1,2 @@
+mod Changed
+mod Lowest

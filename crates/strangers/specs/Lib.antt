@@ -1,0 +1,4 @@
+pub mod Sizes
+pub mod Newest
+pub mod Sorted
+pub mod Drawers

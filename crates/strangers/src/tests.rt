@@ -1,0 +1,3 @@
+//! Short runs over the two, alone and under two ends.
+mod alone;
+mod ends;
