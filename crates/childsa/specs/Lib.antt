@@ -4,3 +4,4 @@ pub mod Books
 pub mod Piles
 pub mod Desks
 pub mod Told
+pub mod Ladders

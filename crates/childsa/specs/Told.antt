@@ -1,5 +1,6 @@
 -- What is printed of books and channels.
-use Rattle.std.specs.Prelude.{◌≡◌, ℕ, ◌⊎◌, List, ◌++◌, length, Some, None, Ok, Err, codes, decimal, Option, Result}
+use Rattle.std.specs.Prelude.{◌≡◌, ℕ, ◌⊎◌, List, [], ◌∷◌, ◌++◌, Bool, true, false, length, Some, None, Ok, Err, codes, decimal, Option, Result}
+use Rattle.std.specs.Option.{option_map}
 use Rattle.nonce.specs.Nonces.{as_nonce}
 use Rattle.book.specs.Rows.{state_number, beginner_number, kept_octets, nr_octets}
 use Rattle.book.specs.Shelves.{Answer, Shelf, book_number}
@@ -13,6 +14,13 @@ use Rattle.channel.specs.declared.sent.Sent.{Sent}
 use Rattle.channel.specs.declared.sent.Sent.TheVariants.{Taken, NotTaken}
 use Rattle.nonce.specs.declared.side.Side.{Side}
 use Rattle.nonce.specs.declared.side.Side.TheVariants.{A, B}
+use Rattle.calls.specs.Numbers.{answer_number}
+use Rattle.calls.specs.declared.answers.Answer as answers
+use Rattle.endpoint.specs.declared.outstanding.Outstanding.{Outstanding}
+use Rattle.endpoint.specs.Questions.{number_left, numbers_of, has_collision}
+use Rattle.law.specs.Ends.{End}
+use Rattle.law.specs.declared.kinds.Kind.{Kind}
+use Rattle.law.specs.declared.kinds.Kind.TheVariants.{Create, Rekey, Delete, Check}
 use Rattle.childsa.specs.Hex.{hex_text}
 
 -- a refusal of any layer, by its number
@@ -83,3 +91,39 @@ sent_text NotTaken = codes "not taken"
 -- what is printed of a receive: a datagram that could come, or that there is none
 abbrev pub ReceivedText : Meaning → Side → List ℕ → Type 0
 ReceivedText m side t = (t ≡ codes "nothing") ⊎ ((d : List ℕ) × m.may side d × (t ≡ hex_text d))
+
+-- the numbers of answers, a space before each
+abbrev pub number_text : answers.Answer → List ℕ
+number_text a = codes " " ++ decimal (answer_number a)
+
+abbrev pub numbers_text : List answers.Answer → List ℕ
+numbers_text [] = []
+numbers_text (a ∷ rest) = number_text a ++ numbers_text rest
+
+-- a number that rises, or that it is spent
+abbrev pub left_text : Option ℕ → List ℕ
+left_text None = codes "spent"
+left_text (Some n) = decimal n
+
+-- the outstanding request of an end, and whether it has recorded a collision
+abbrev pub collided_text : Bool → List ℕ
+collided_text true = codes " collision"
+collided_text false = []
+
+abbrev pub request_text : Kind → Outstanding → Bool → List ℕ
+request_text Create o c = codes "create id " ++ (decimal o.id ++ (codes " own " ++ decimal o.own))
+request_text Rekey o c =
+    codes "rekey id " ++ (decimal o.id ++ (codes " own " ++ (decimal o.own ++ (codes " old " ++ (decimal o.old ++ collided_text c)))))
+request_text Delete o c = codes "delete id " ++ (decimal o.id ++ (codes " own " ++ decimal o.own))
+request_text Check o c = codes "check id " ++ decimal o.id
+
+abbrev pub doing_text : Option Outstanding → Bool → List ℕ
+doing_text None c = codes "quiet"
+doing_text (Some o) c = request_text o.kind o c
+
+-- the numbers of an end, and its outstanding request
+abbrev pub end_text : End → List ℕ
+end_text e =
+    codes "next " ++ (left_text (number_left e.next) ++ (codes " expected " ++ (left_text (number_left e.expected)
+    ++ (codes " spi " ++ (left_text (number_left e.spi)
+    ++ (codes " " ++ doing_text (option_map numbers_of e.outstanding) (has_collision e.outstanding)))))))

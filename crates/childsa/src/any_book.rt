@@ -1,5 +1,6 @@
 //! A book of either kind.
-ghost use Rattle.childsa.specs.Books.{any_shelf};
+ghost use Rattle.std.specs.Prelude.{◌≡◌};
+ghost use Rattle.childsa.specs.Books.{any_shelf, kind_text};
 ghost use Rattle.childsa.specs.declared.any_book.AnyBook.TheVariants.{Ordered, Table};
 
 use book::row::Row;
@@ -13,6 +14,18 @@ use table::TableBook;
 pub(crate) enum AnyBook<O = OrderedBook, T = TableBook> {
     Ordered(Box<O>),
     Table(Box<T>),
+}
+
+impl<O, T> AnyBook<O, T> {
+    /// The name of the kind.
+    pub(crate) fn kind(&self) -> &'static str
+        ensures { result.now ≡ kind_text self.now }
+    {
+        match self {
+            AnyBook::Ordered(_) => "ordered",
+            AnyBook::Table(_) => "table",
+        }
+    }
 }
 
 impl<O: Book, T: Book> Book for AnyBook<O, T> {

@@ -30,7 +30,7 @@ pub(crate) fn start(line: &mut Line<'_>) -> Result<String, Stop> {
 }
 
 /// The name of a kind, and a book of that kind with no rows. A match on the word, since each makes a book of its own type.
-fn read_kind(words: &mut Words<'_>) -> Result<(&'static str, AnyBook), Stop> {
+pub(crate) fn read_kind(words: &mut Words<'_>) -> Result<(&'static str, AnyBook), Stop> {
     let expected = "`ordered` or `table`";
     match words.word(expected)? {
         "ordered" => {
@@ -174,7 +174,7 @@ fn next_text<B: Book>(heap: Global, book: &B, own: u32) -> Result<String, AllocE
 }
 
 /// How many rows there are and can be, as text.
-fn rows_text<B: Book>(heap: Global, book: &B) -> Result<String, AllocError>
+pub(crate) fn rows_text<B: Book>(heap: Global, book: &B) -> Result<String, AllocError>
     ensures { IfOk result (λ s. string_bytes s ≡ rows_text (B.Book.shelf book.now)) }
 {
     let len = book.len();
@@ -183,7 +183,7 @@ fn rows_text<B: Book>(heap: Global, book: &B) -> Result<String, AllocError>
 }
 
 /// What an audit of two books finds, as text.
-fn audit_text<P: Book, Q: Book>(heap: Global, a: &P, b: &Q) -> Result<String, AllocError>
+pub(crate) fn audit_text<P: Book, Q: Book>(heap: Global, a: &P, b: &Q) -> Result<String, AllocError>
     ensures { IfOk result (λ s. string_bytes s ≡ finding_text (audited (P.Book.shelf a.now) (Q.Book.shelf b.now))) }
 {
     Told(book::audit::audit(a, b)).to_string(heap)

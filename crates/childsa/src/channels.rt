@@ -22,7 +22,7 @@ use std::fmt;
 
 /// The bottom that is asked for; the fates of a trace are as they are written.
 #[derive(Clone, Copy)]
-enum Wanted<'a> {
+pub(crate) enum Wanted<'a> {
     Queue { longest: u32 },
     Stack { longest: u32 },
     Trace { longest: u32, fates: &'a str },
@@ -43,7 +43,7 @@ const MOST_MARKERS: usize = 3;
 
 /// How many markers are asked for over the bottom, at most three.
 #[derive(Clone, Copy)]
-struct Markers(usize);
+pub(crate) struct Markers(pub(crate) usize);
 
 impl fmt::Display for Markers {
     fn fmt<W: fmt::Write>(&self, f: &mut fmt::Formatter<W>) -> fmt::Result {
@@ -133,7 +133,7 @@ fn received_text<C: Channel>(
 }
 
 /// A bottom in which nothing waits.
-fn new_bottom(heap: Global, wanted: Wanted<'_>) -> Result<AnyBottom, MakeRefusal>
+pub(crate) fn new_bottom(heap: Global, wanted: Wanted<'_>) -> Result<AnyBottom, MakeRefusal>
     ensures { BottomMade wanted.entry result }
 {
     match wanted {
@@ -147,7 +147,7 @@ fn new_bottom(heap: Global, wanted: Wanted<'_>) -> Result<AnyBottom, MakeRefusal
 
 /// `queue N`, `stack N` or `trace N FATES`.
 // a match on the word: behind each word others are read
-fn read_wanted<'a>(words: &mut Words<'a>) -> Result<Wanted<'a>, Stop> {
+pub(crate) fn read_wanted<'a>(words: &mut Words<'a>) -> Result<Wanted<'a>, Stop> {
     let expected = "`queue`, `stack` or `trace`";
     match words.word(expected)? {
         "queue" => Ok(Wanted::Queue {
@@ -187,6 +187,20 @@ fn read_markers(words: &mut Words<'_>) -> Result<Markers, Stop> {
         }
     }
     words.end()?;
+    Ok(Markers(MOST_MARKERS))
+}
+
+/// `marker`, up to three times, and then this word.
+pub(crate) fn read_markers_before(words: &mut Words<'_>, end: &str) -> Result<Markers, Stop> {
+    let expected = format!(in words.heap; "`marker` or `{end}`")?;
+    for markers in 0..MOST_MARKERS {
+        match words.word(expected.as_str())? {
+            "marker" => {}
+            word if word == end => return Ok(Markers(markers)),
+            word => return words.unexpected(word, expected.as_str()),
+        }
+    }
+    words.keyword(end)?;
     Ok(Markers(MOST_MARKERS))
 }
 

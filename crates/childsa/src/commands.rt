@@ -3,7 +3,8 @@ use crate::desk::Desk;
 use crate::help::help;
 use crate::words::Words;
 use crate::wrong::{Stop, Wrong};
-use crate::{books, channels, messages};
+use crate::{books, channels, ends, ladder, messages, moves, report};
+use nonce::side::Side;
 use std::alloc::Global;
 
 /// A line that is being answered: the desk that it works on, and its words.
@@ -45,6 +46,13 @@ fn perform(line: &mut Line<'_>, command: &str) -> Result<String, Stop> {
         "unmark" => channels::unmark(line),
         "send" => channels::send(line),
         "receive" => channels::receive(line),
+        "make" => ends::make(line),
+        "A" => moves::call(line, Side::A),
+        "B" => moves::call(line, Side::B),
+        "round" => moves::round(line),
+        "books" => report::books(line),
+        "ends" => report::ends(line),
+        "ladder" => ladder::show(line),
         "help" => help(&mut line.words),
         _ => Err(Wrong::Command(command.to_string(line.words.heap)?).into()),
     }

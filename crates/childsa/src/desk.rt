@@ -5,16 +5,18 @@ ghost use Rattle.childsa.specs.Piles.{pile_means};
 ghost use Rattle.childsa.specs.Desks.{empty_desk, book_at, with_book, with_markers};
 
 use crate::any_book::AnyBook;
+use crate::ends::Ends;
 use crate::pile::Pile;
 use channel::channel::Channel;
 use nonce::both::Both;
 use nonce::side::Side;
 
-/// The books A and B, and the channel, once they are made.
+/// The books A and B, the channel, and the two ends, once they are made.
 #[derive(Default, Drop)]
 pub(crate) struct Desk {
     books: Both<Option<AnyBook>>,
     pub(crate) channel: Option<Pile>,
+    pub(crate) ends: Option<Ends>,
 }
 
 impl Desk {

@@ -22,12 +22,22 @@ unmark               takes the highest marker off the channel
 send END HEX         sends a datagram to A or B: taken, or not taken; - is no octets
 receive END          the datagram that comes to A or B, or nothing
 receive END N        the same into a buffer of N octets, 0 to 256
+make CHANNEL MAKING  makes two ends, A and B, over a channel of their own, and with books of their own: 0, or 10 or 11
+A CALL, B CALL       a call of an end, and the number of its answer
+round N OCTETS       a delivery to A and then one to B, N times, with this nonce for replies
+books                the books of the two ends, and what an audit of them finds
+ends                 a line for each end: its numbers, and its outstanding request
+ladder               the messages between the two ends so far, as a picture
 help                 these lines
 MESSAGE is           ike SPI SPI A|B request ID REQUEST, or ike SPI SPI A|B response ID RESPONSE
 REQUEST is           create spi N nonce NONCE, rekey old N spi N nonce NONCE, delete spi N, or empty
 RESPONSE is          new spi N nonce NONCE, notify 14, notify 35, notify 43, notify 44 spi N, delete spi N, or empty
 ROW is               row OWN PEER STATE BEGAN parent OWN PEER ni NONCE nr NONCE; STATE is 1 to 5, BEGAN 0 or 1, - is no nonce
 BOTTOM is            queue N, stack N or trace N FATES, with N octets at the most; FATES are letters, p, l, 2 or j, or - for none
+CHANNEL is           a BOTTOM, and marker behind it up to three times
+MAKING is            ids ID ID spis N N ike HEX HEX books KIND KIND: first Message IDs, first own SPIs, IKE SPIs and books, of A and B
+CALL is              create OCTETS, rekey OWN OCTETS, delete OWN, check, resend, or deliver OCTETS
+OCTETS is            a nonce of any length, for an end refuses a wrong one; one octet alone stands for sixteen of it, - is none
 NONCE is             16 to 32 octets in hexadecimal digits; one octet alone stands for sixteen of it
 # starts a comment";
 

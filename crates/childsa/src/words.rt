@@ -16,6 +16,7 @@ use std::str::SplitWhitespace;
 #[derive(Drop)]
 pub(crate) struct Words<'a> {
     pub(crate) heap: Global,
+    line: &'a str,
     left: SplitWhitespace<'a>,
 }
 
@@ -25,8 +26,21 @@ impl<'a> Words<'a> {
         let before = line.split_once('#').map_or(line, |(before, _)| before);
         Words {
             heap,
+            line: before,
             left: before.split_whitespace(),
         }
+    }
+
+    /// All words of the line, with one space between two.
+    pub(crate) fn itself(&self) -> Result<String, AllocError> {
+        let mut text = String::new(self.heap);
+        for word in self.line.split_whitespace() {
+            if !text.is_empty() {
+                text.push_str(" ")?;
+            }
+            text.push_str(word)?;
+        }
+        Ok(text)
     }
 
     /// The next word, where one is left.
@@ -122,6 +136,17 @@ impl<'a> Words<'a> {
         }
     }
 
+    /// The octets that are given for a nonce, however many; `-` stands for none.
+    pub(crate) fn nonce_octets(&mut self) -> Result<Vec<u8>, Stop> {
+        match self.word("the octets of a nonce, or `-` for none")? {
+            "-" => Ok(Vec::new(self.heap)),
+            word => {
+                let octets = self.octets_from(word)?;
+                Ok(spread(self.heap, octets.as_slice())?)
+            }
+        }
+    }
+
     /// A nonce.
     pub(crate) fn nonce(&mut self, expected: &str) -> Result<Nonce, Stop> {
         let word = self.word(expected)?;
@@ -154,6 +179,16 @@ fn ike_spi_of(octets: &[u8]) -> Option<u64>
     ensures { result ≡ ike_spi octets.now }
 {
     u64_at(octets, 0).filter(|_| octets.len() == 8)
+}
+
+/// The octets of a nonce that is written by these: one alone stands for sixteen of it.
+fn spread(heap: Global, octets: &[u8]) -> Result<Vec<u8>, AllocError>
+    ensures { IfOk result (λ v. v.items ≡ spread octets.now) }
+{
+    match octets {
+        [x] => Vec::from_slice(heap, &[*x; 16]),
+        _ => Vec::from_slice(heap, octets),
+    }
 }
 
 /// The nonce that octets stand for: one alone stands for sixteen of it.

@@ -40,6 +40,10 @@ pub(crate) enum Wrong {
     NoMoreMarkers,
     #[error("no marker stands over the channel")]
     NoMarker,
+    #[error("there are no ends; `make` makes them, and `help` tells how")]
+    NoEnds,
+    #[error("a round is made 1 to 100 times, this {0} times")]
+    Times(u32),
     #[error("a buffer has 0 to 256 octets here, this has {0}")]
     BufferLength(u32),
 }
