@@ -1,22 +1,30 @@
 # The program on its example script, and the gate.
 SHELL := /bin/bash
-.PHONY: all run test
+.PHONY: all run test histories
+N ?= 1000000
+SEED ?= 1
 
 all: run
 
 # Proves and builds the program, and runs it on the shipped script.
 run:
 	@echo "proving and building childsa (some minutes the first time) .."
-	@log=$$(mktemp); (cd crates/childsa && rt run) > $$log 2>&1 < /dev/null || { cat $$log; rm -f $$log; exit 1; }; rm -f $$log
-	@crates/childsa/out/childsa examples/collision.script
+	@program=$$(tools/built) && $$program examples/collision.script
 
-# The whole gate: everything proved, the must-fail edits, the programs' output, the tests; then the scripts of examples/ with the output
-# that is stored beside each, and the edits that must be refused before anything runs. An edit that the prover could not read fails it too. The very last line is rt's own count.
+# The program and the independent one, over N histories by SEED.
+histories:
+	@independent/try $(N) $(SEED)
+
+# The whole gate: everything proved, the must-fail edits, the programs' output, the tests; then, with the program that this built, the
+# scripts of examples/ with the output that is stored beside each, and some histories against the independent program; and the
+# edits that must be refused before anything runs. An edit that the prover could not read fails it too. The very last line is
+# rt's own count.
 test:
 	@start=$$(date +%s); log=$$(mktemp); \
 	rt ci 2>&1 | tee $$log | sed '$$d'; status=$${PIPESTATUS[0]}; \
 	if grep -qE '^rt: ok.*, [0-9]+ bad' $$log; then echo "must-fail edits are bad: they show nothing"; status=1; fi; \
 	examples/try || status=1; \
+	independent/try 20000 1 || status=1; \
 	refused/try || status=1; \
 	echo "the gate took $$(( $$(date +%s) - start )) s"; \
 	if [ $$status -eq 0 ]; then tail -n 1 $$log; else echo "the gate FAILED"; fi; \
