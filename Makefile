@@ -10,8 +10,9 @@ run:
 	@log=$$(mktemp); (cd crates/childsa && rt run) > $$log 2>&1 < /dev/null || { cat $$log; rm -f $$log; exit 1; }; rm -f $$log
 	@crates/childsa/out/childsa examples/collision.script
 
-# The whole gate: everything proved, the must-fail edits, the programs' output, the tests; then the scripts of examples/ with the output
-# that is stored beside each, and the edits that must be refused before anything runs. An edit that the prover could not read fails it too. The very last line is rt's own count.
+# The whole gate: everything proved, the must-fail edits, the programs' output, the tests; then the scripts of examples/ with the
+# output that is stored beside each, and the edits that must be refused before anything runs. An edit that the prover could not
+# read fails it too. The very last line is rt's own count.
 test:
 	@start=$$(date +%s); log=$$(mktemp); \
 	rt ci 2>&1 | tee $$log | sed '$$d'; status=$${PIPESTATUS[0]}; \
