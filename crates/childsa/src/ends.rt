@@ -1,7 +1,7 @@
 //! The two ends of a script, and how they are made.
 ghost use Rattle.std.specs.Prelude.{◌≡◌, [], ◌∷◌, IfOk};
 ghost use Rattle.calls.specs.Plain.{plain_move};
-ghost use Rattle.law.specs.Laws.{GoesOn};
+ghost use Rattle.law.specs.Laws.{Lawful, GoesOn};
 ghost use Rattle.pair.specs.Worlds.{world};
 ghost use Rattle.childsa.specs.Piles.{pile_means};
 ghost use Rattle.channel.specs.Meaning.{other};
@@ -116,9 +116,10 @@ impl Ends {
         }
     }
 
-    /// Makes a call of an end, and draws what came and what was sent. With all calls before it, it keeps the law of two ends.
+    /// Makes a call of an end, and draws what came and what was sent. The answer is the end's, by the law of two ends.
     pub(crate) fn call(&mut self, heap: Global, step: Move<&[u8]>) -> Result<Answer, AllocError>
-        ensures { IfOk result (λ answer. GoesOn pile_means (world self.old.pair) (plain_move step.entry ∷ []) (answer ∷ []) (world self.new.pair)) }
+        ensures law { IfOk result (λ answer. Lawful pile_means (world self.old.pair) (plain_move step.entry ∷ []) (answer ∷ []) (world self.new.pair)) }
+        ensures goes_on { IfOk result (λ answer. GoesOn pile_means (world self.old.pair) (plain_move step.entry ∷ []) (answer ∷ []) (world self.new.pair)) }
     {
         let there = across(step.side);
         let before = self.waiting(there);

@@ -1,5 +1,5 @@
 //! The calls of the two ends.
-ghost use Rattle.std.specs.Prelude.{◌≡◌, ◌≤◌, ◌<◌, ◌++◌, IfOk, Some, string_bytes, codes, decimal};
+ghost use Rattle.std.specs.Prelude.{◌≡◌, ◌++◌, IfOk, Some, string_bytes, codes, decimal};
 ghost use Rattle.childsa.specs.Told.{numbers_text};
 
 use crate::commands::Line;
