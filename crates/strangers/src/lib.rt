@@ -18,6 +18,7 @@ use std::alloc::{AllocError, Global};
 
 mod any_order;
 mod newest;
+mod queued;
 #[cfg(test)]
 mod tests;
 

@@ -1,7 +1,7 @@
 //! How the channel that keeps the newest is a channel.
 ghost use Rattle.std.specs.Prelude.{◌≡◌, ◌≤◌, length, IfSome};
 ghost use Rattle.std.specs.Option.{option_map, option_copied};
-ghost use Rattle.pair.specs.Worlds.{Clean};
+ghost use Rattle.law.specs.Runs.{Clean};
 ghost use Rattle.strangers.specs.Newest.{state_of, made, newest_at, means, newest_sound};
 
 use crate::newest::Newest;

@@ -7,6 +7,7 @@ use calls::making::{First, Making};
 use calls::moves::{Call, Move};
 use nonce::side::Side;
 use nonce::side::Side::{A, B};
+use pair::Pair;
 use std::alloc::{AllocError, Global};
 use std::process::Abort;
 use std::test::Fail;
@@ -61,7 +62,7 @@ fn numbers(
 }
 
 /// Whether both ends are quiet, and each row of either book has its mirror in the other.
-fn at_rest(pair: &Strangers) -> bool {
+pub(super) fn at_rest<P: Book, Q: Book, C>(pair: &Pair<P, Q, C>) -> bool {
     let (a, b) = (pair.a(), pair.b());
     a.is_quiet() && b.is_quiet() && audit(a.book(), b.book()).is_none()
 }
