@@ -16,6 +16,7 @@ pub record Looped {C : Type 0} (meaning : C → Meaning) (before after : C) (sid
   pub between : C
   pub sent : Sent
   pub sends : SentAs (meaning before) (meaning between) side octets sent
+  pub unfit : (Within (meaning before) octets → ⊥) → (sent ≡ NotTaken) × (between ≡ before)
   pub receives : After sent (ReceivedAs (meaning between) (meaning after) side was is answer) ((answer ≡ None) × (is ≡ was) × (after ≡ between))
 
 -- nothing waits at the side, and the octets and the buffer have a fitting length

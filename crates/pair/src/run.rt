@@ -1,5 +1,5 @@
 //! Calls of two ends, one after the other.
-ghost use Rattle.std.specs.Prelude.{◌≡◌, [], ◌∷◌, IfOk, IfErr};
+ghost use Rattle.std.specs.Prelude.{◌≡◌, [], ◌∷◌, IsOk, IfOk, IfErr};
 ghost use Rattle.calls.specs.Plain.{plain_call, plain_move, plain_moves};
 ghost use Rattle.law.specs.Runs.{Called, Step};
 ghost use Rattle.law.specs.Laws.{Lawful, GoesOn};
@@ -56,6 +56,7 @@ impl<P: Book, Q: Book, C: Channel> Pair<P, Q, C> {
         ensures law { IfOk result (λ answers. Lawful C.Channel.meaning (world self.old) (plain_moves moves.now) answers.items (world self.new)) }
         ensures goes_on { IfOk result (λ answers. GoesOn C.Channel.meaning (world self.old) (plain_moves moves.now) answers.items (world self.new)) }
         ensures nothing { IfErr result (λ _. self.new ≡ self.old) }
+        ensures memory { moves.now ≡ [] → IsOk result }
     {
         let mut answers = Vec::with_capacity(heap, moves.len())?;
         for &next in moves {
