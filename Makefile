@@ -11,12 +11,13 @@ run:
 	@crates/childsa/out/childsa examples/messages.script
 
 # The whole gate: everything proved, the must-fail edits, the programs' output, the tests; then the edits that must be refused
-# before anything runs. An edit that the prover could not read fails it too. The very last line is rt's own count.
+# before anything runs, and the example in C. An edit that the prover could not read fails it too. The very last line is rt's own count.
 test:
 	@start=$$(date +%s); log=$$(mktemp); \
 	rt ci 2>&1 | tee $$log | sed '$$d'; status=$${PIPESTATUS[0]}; \
 	if grep -qE '^rt: ok.*, [0-9]+ bad' $$log; then echo "must-fail edits are bad: they show nothing"; status=1; fi; \
 	refused/try || status=1; \
+	c/try || status=1; \
 	echo "the gate took $$(( $$(date +%s) - start )) s"; \
 	if [ $$status -eq 0 ]; then tail -n 1 $$log; else echo "the gate FAILED"; fi; \
 	rm -f $$log; exit $$status
