@@ -1,6 +1,6 @@
 # The program on its example script, and the gate.
 SHELL := /bin/bash
-.PHONY: all run test
+.PHONY: all run test bench
 
 all: run
 
@@ -9,6 +9,13 @@ run:
 	@echo "proving and building childsa (some minutes the first time) .."
 	@log=$$(mktemp); (cd crates/childsa && rt run) > $$log 2>&1 < /dev/null || { cat $$log; rm -f $$log; exit 1; }; rm -f $$log
 	@crates/childsa/out/childsa examples/messages.script
+
+# Times the library's functions beside those of the independent program, on one core; ONLY=WORD takes the lines with that word.
+# It needs cargo, and is no part of the gate. docs/PERFORMANCE.md has the figures.
+bench:
+	@log=$$(mktemp); (cd crates/benched && rt lib) > $$log 2>&1 < /dev/null || { cat $$log; rm -f $$log; exit 1; }; rm -f $$log
+	@cd bench && RATTLE_C=$$(dirname "$$(readlink -f "$$(command -v rt)")")/../c cargo build --quiet --release --offline
+	@taskset -c $$(( $$(nproc) - 1 )) bench/target/release/bench $(ONLY)
 
 # The whole gate: everything proved, the must-fail edits, the programs' output, the tests; then the edits that must be refused
 # before anything runs, and the example in C. An edit that the prover could not read fails it too. The very last line is rt's own count.
