@@ -1,6 +1,6 @@
 # The program on its example script, and the gate.
 SHELL := /bin/bash
-.PHONY: all run test histories
+.PHONY: all run test histories bench
 N ?= 1000000
 SEED ?= 1
 
@@ -15,10 +15,17 @@ run:
 histories:
 	@independent/try $(N) $(SEED)
 
+# Times the library's functions beside those of the independent program, on one core; ONLY=WORD takes the lines with that word.
+# It needs cargo, and is no part of the gate. docs/PERFORMANCE.md has the figures.
+bench:
+	@log=$$(mktemp); (cd crates/benched && rt lib) > $$log 2>&1 < /dev/null || { cat $$log; rm -f $$log; exit 1; }; rm -f $$log
+	@cd bench && RATTLE_C=$$(dirname "$$(readlink -f "$$(command -v rt)")")/../c cargo build --quiet --release --offline
+	@taskset -c $$(( $$(nproc) - 1 )) bench/target/release/bench $(ONLY)
+
 # The whole gate: everything proved, the must-fail edits, the programs' output, the tests; then, with the program that this built, the
-# scripts of examples/ with the output that is stored beside each, and some histories against the independent program; and the
-# edits that must be refused before anything runs. An edit that the prover could not read fails it too. The very last line is
-# rt's own count.
+# scripts of examples/ with the output that is stored beside each, and some histories against the independent program; the
+# edits that must be refused before anything runs; and the example in C. An edit that the prover could not read fails it too. The
+# very last line is rt's own count.
 test:
 	@start=$$(date +%s); log=$$(mktemp); \
 	rt ci 2>&1 | tee $$log | sed '$$d'; status=$${PIPESTATUS[0]}; \
@@ -26,6 +33,7 @@ test:
 	examples/try || status=1; \
 	independent/try 20000 1 || status=1; \
 	refused/try || status=1; \
+	c/try || status=1; \
 	echo "the gate took $$(( $$(date +%s) - start )) s"; \
 	if [ $$status -eq 0 ]; then tail -n 1 $$log; else echo "the gate FAILED"; fi; \
 	rm -f $$log; exit $$status

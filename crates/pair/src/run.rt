@@ -47,7 +47,8 @@ impl<P: Book, Q: Book, C: Channel> Pair<P, Q, C> {
         self.step(next)
     }
 
-    /// Makes each call in turn, and gives their answers. Where there is no memory for these, no call is made.
+    /// Makes each call in turn, and gives their answers. Where there is no memory for these, no call is made; for no answers none
+    /// is needed.
     ///
     /// What happens keeps the law of two ends, over any channel and any books: at every moment of a run from the making of both
     /// ends, over a channel from which nothing may come, mirrors, succession and rest hold. `law` says so of these calls where they

@@ -1,0 +1,94 @@
+/* Reads messages and asks for losers. */
+#include "childsa.h"
+
+#include <inttypes.h>
+#include <stdio.h>
+#include <string.h>
+
+/* The struct is laid out as the library has it. */
+_Static_assert(sizeof(struct childsa_message) == 72, "a message has 72 octets");
+_Static_assert(offsetof(struct childsa_message, failure) == 32, "the failure stands behind the nonce's length");
+_Static_assert(offsetof(struct childsa_message, nonce) == 36, "the nonce is last");
+
+/* A Delete of SA 1000 by A. */
+static const uint8_t delete_request[40] = {
+    0x01, 0x02, 0x03, 0x04, 0x05, 0x06, 0x07, 0x08, 0x11, 0x12, 0x13, 0x14, 0x15, 0x16, 0x17, 0x18, 0x2a, 0x20, 0x25, 0x08,
+    0x00, 0x00, 0x00, 0x05, 0x00, 0x00, 0x00, 0x28, 0x00, 0x00, 0x00, 0x0c, 0x03, 0x04, 0x00, 0x01, 0x00, 0x00, 0x03, 0xe8,
+};
+
+/* A new SA of B, 2000, with a nonce of 17 octets. */
+static const uint8_t new_response[133] = {
+    0x01, 0x02, 0x03, 0x04, 0x05, 0x06, 0x07, 0x08, 0x11, 0x12, 0x13, 0x14, 0x15, 0x16, 0x17, 0x18, 0x21, 0x20, 0x24, 0x20,
+    0x00, 0x00, 0x00, 0x02, 0x00, 0x00, 0x00, 0x85,
+    0x28, 0x00, 0x00, 0x24, 0x00, 0x00, 0x00, 0x20, 0x01, 0x03, 0x04, 0x02, 0x00, 0x00, 0x07, 0xd0, 0x03, 0x00, 0x00, 0x0c,
+    0x01, 0x00, 0x00, 0x14, 0x80, 0x0e, 0x00, 0x80, 0x00, 0x00, 0x00, 0x08, 0x05, 0x00, 0x00, 0x00,
+    0x2c, 0x00, 0x00, 0x15, 0x77, 0x77, 0x77, 0x77, 0x77, 0x77, 0x77, 0x77, 0x77, 0x77, 0x77, 0x77, 0x77, 0x77, 0x77, 0x77,
+    0x78,
+    0x2d, 0x00, 0x00, 0x18, 0x01, 0x00, 0x00, 0x00, 0x07, 0x00, 0x00, 0x10, 0x00, 0x00, 0xff, 0xff, 0x00, 0x00, 0x00, 0x00,
+    0xff, 0xff, 0xff, 0xff,
+    0x00, 0x00, 0x00, 0x18, 0x01, 0x00, 0x00, 0x00, 0x07, 0x00, 0x00, 0x10, 0x00, 0x00, 0xff, 0xff, 0x00, 0x00, 0x00, 0x00,
+    0xff, 0xff, 0xff, 0xff,
+};
+
+/* Prints what is read of octets, or the number of the refusal and that the struct is as it was. */
+static void read_message(const uint8_t *octets, size_t len)
+{
+    struct childsa_message message;
+    struct childsa_message before;
+
+    memset(&message, 0xaa, sizeof message);
+    memcpy(&before, &message, sizeof before);
+    const uint16_t refusal = childsa_decode(octets, len, &message);
+    if (refusal != 0) {
+        printf("refused %u, message %s\n", refusal, memcmp(&message, &before, sizeof message) ? "changed" : "as it was");
+        return;
+    }
+    printf("ike %016" PRIx64 " %016" PRIx64 " sender %u id %" PRIu32 " kind %u", message.initiator, message.responder,
+           message.sender, message.id, message.kind);
+    printf(" spi %" PRIu32 " rekeyed %" PRIu32 " failure %u nonce ", message.spi, message.rekeyed, message.failure);
+    for (uint32_t i = 0; i < message.nonce_len; i++) {
+        printf("%02x", message.nonce[i]);
+    }
+    printf("(%" PRIu32 ")\n", message.nonce_len);
+}
+
+/* Reads the octets with one of them changed. */
+static void read_changed(size_t at, uint8_t to)
+{
+    uint8_t octets[sizeof new_response];
+
+    memcpy(octets, new_response, sizeof octets);
+    octets[at] = to;
+    read_message(octets, sizeof octets);
+}
+
+/* Prints who loses, where each nonce is 16 times one octet; the last has as many octets as asked for. */
+static void lose(uint8_t ia, uint8_t ra, uint8_t ib, uint8_t rb, size_t last)
+{
+    uint8_t nonces[4][33];
+
+    memset(nonces[0], ia, 33);
+    memset(nonces[1], ra, 33);
+    memset(nonces[2], ib, 33);
+    memset(nonces[3], rb, 33);
+    printf("loser %u\n", childsa_loser(nonces[0], 16, nonces[1], 16, nonces[2], 16, nonces[3], last));
+}
+
+int main(void)
+{
+    read_message(delete_request, sizeof delete_request);
+    read_message(new_response, sizeof new_response);
+    read_message(new_response, sizeof new_response - 1);
+    read_message(new_response, 0);
+    read_changed(17, 0x21);
+    read_changed(28, 0x29);
+    read_changed(132, 0xfe);
+    lose(0x55, 0x77, 0x44, 0x66, 16);
+    lose(0x44, 0x66, 0x55, 0x77, 16);
+    lose(0x55, 0x11, 0x44, 0x11, 16);
+    lose(0x11, 0x11, 0x11, 0x11, 17);
+    lose(0x55, 0x77, 0x66, 0x44, 32);
+    lose(0x55, 0x77, 0x44, 0x66, 15);
+    lose(0x55, 0x77, 0x44, 0x66, 33);
+    return 0;
+}
