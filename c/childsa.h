@@ -10,7 +10,7 @@
  *    initialised, with whatever values.
  *  - `out` overlaps none of the octets. Rows of octets may overlap one another.
  *  - While a call runs, nobody else writes what its pointers point to, and nobody else reads or writes *out.
- *  - The program is for x86-64 and has a `memcpy` that does what C says of it.
+ *  - The program runs on an x86-64-v2 processor and has a `memcpy` that does what C says of it.
  *
  * Nothing else is asked for: every call returns, allocates nothing, keeps no pointer and has no state, so calls may run on
  * several threads at once, and in a signal handler.
