@@ -6,10 +6,10 @@ SEED ?= 1
 
 all: run
 
-# Proves and builds the program, and runs it on the shipped script.
+# Proves and builds the program, and runs it on the shipped script, whose comments stand between what it prints.
 run:
 	@echo "proving and building childsa (some minutes the first time) .."
-	@program=$$(tools/built) && $$program examples/collision.script
+	@tools/built > /dev/null && tools/tell examples/collision.script
 
 # The program and the independent one, over N histories by SEED.
 histories:
