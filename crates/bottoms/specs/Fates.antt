@@ -1,8 +1,6 @@
 -- The fates of what is sent, and what each leaves.
 use Rattle.std.specs.Prelude.{ℕ, cond, List, [], ◌∷◌, ◌==◌}
 use Rattle.nonce.specs.declared.side.Side.{Side}
-use Rattle.channel.specs.declared.sent.Sent.{Sent}
-use Rattle.channel.specs.declared.sent.Sent.TheVariants.{Taken, NotTaken}
 use Rattle.bottoms.specs.Stores.{Store, admits, added_last, added_first}
 use Rattle.bottoms.specs.declared.rule.Fate.{Fate}
 use Rattle.bottoms.specs.declared.rule.Fate.TheVariants.{Pass, Lose, Double, Jump}
@@ -22,7 +20,3 @@ fated Pass s to d = added_last s to d
 fated Lose s to d = s
 fated Double s to d = cond (admits (added_last s to d) to d) (added_last (added_last s to d) to d) (added_last s to d)
 fated Jump s to d = added_first s to d
-
--- what a send answers and leaves, where the next fate is this one
-abbrev pub sent_by : Fate → Store → Side → List ℕ → Sent × Store
-sent_by fate s to d = cond (admits s to d) (Taken, fated fate s to d) (NotTaken, s)

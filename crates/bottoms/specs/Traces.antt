@@ -1,11 +1,12 @@
 -- What a trace means, and what it does.
 use Rattle.std.specs.Prelude.{◌≡◌, ℕ, true, false, cond, List, drop, Ok, Err, Option, Result}
 use Rattle.nonce.specs.declared.side.Side.{Side}
+use Rattle.channel.specs.Behaviour.{Behaviour}
 use Rattle.channel.specs.Meaning.{Meaning}
 use Rattle.channel.specs.declared.sent.Sent.{Sent}
 use Rattle.channel.specs.declared.sent.Sent.TheVariants.{Taken, NotTaken}
 use Rattle.bottoms.specs.Stores.{Store, admits, received, empty, in_range, store_of}
-use Rattle.bottoms.specs.Bottoms.{means}
+use Rattle.bottoms.specs.Bottoms.{means, behaves}
 use Rattle.bottoms.specs.Fates.{next_fate, fated}
 use Rattle.bottoms.specs.declared.bottom.Bottom.{Bottom}
 use Rattle.bottoms.specs.declared.refusal.MakeRefusal.{MakeRefusal}
@@ -25,6 +26,9 @@ traced t = record { store = store_of t.lanes; fates = t.rule }
 
 abbrev pub trace_means : Trace → Meaning
 trace_means = means 0
+
+abbrev pub trace_behaves : Behaviour Trace
+trace_behaves = behaves 0 next_fate (drop 1)
 
 -- a send uses a fate if it is taken
 abbrev pub trace_sent : Traced → Side → List ℕ → Sent × Traced

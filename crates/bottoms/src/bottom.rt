@@ -1,11 +1,10 @@
 //! A channel that holds datagrams itself, and a rule that says where each is put.
-ghost use Rattle.std.specs.Prelude.{◌≡◌, ◌<◌, cond, [], length, None, IfOk};
+ghost use Rattle.std.specs.Prelude.{◌≡◌, ◌<◌, ◌≤◌, [], length, None, IfOk};
 ghost use Rattle.std.specs.Result.{result_map_both};
 ghost use Rattle.channel.specs.Meaning.{Within};
-ghost use Rattle.channel.specs.Effects.{SentAs, ReceivedAs};
-ghost use Rattle.bottoms.specs.Stores.{list_at, admits, received, fresh, store_of};
-ghost use Rattle.bottoms.specs.Bottoms.{means};
-ghost use Rattle.bottoms.specs.Fates.{sent_by};
+ghost use Rattle.channel.specs.Effects.{SentAs, ReceivedAs, came_in};
+ghost use Rattle.bottoms.specs.Stores.{list_at, received, fresh, store_of};
+ghost use Rattle.bottoms.specs.Bottoms.{means, behaves, held, sent_over, given_from};
 ghost use Rattle.bottoms.specs.Holding.{holding_sound};
 
 use crate::lanes::Lanes;
@@ -46,7 +45,7 @@ impl<R> Bottom<R> {
 }
 
 impl<R: Rule> Channel for Bottom<R> {
-    ghost meaning = { means R.Rule.depth };
+    ghost behaviour = { behaves R.Rule.depth R.Rule.fate R.Rule.rest };
 
     ghost sound = { λ b. holding_sound R.Rule.depth b.lanes };
 
@@ -57,8 +56,7 @@ impl<R: Rule> Channel for Bottom<R> {
     fn send(&mut self, to: Side, datagram: &[u8]) -> Sent
         ensures effect { SentAs (means R.Rule.depth self.old) (means R.Rule.depth self.new) to datagram.now result }
         ensures unfit { (Within (means R.Rule.depth self.old) datagram.now → ⊥) → (result ≡ Sent.NotTaken) × (self.new ≡ self.old) }
-        ensures exactly { (result, store_of self.new.lanes) ≡ sent_by (R.Rule.fate self.old.rule) (store_of self.old.lanes) to datagram.now }
-        ensures rule { self.new.rule ≡ cond (admits (store_of self.old.lanes) to datagram.now) (R.Rule.rest self.old.rule) self.old.rule }
+        ensures exactly { (result, held self.new) ≡ sent_over R.Rule.fate R.Rule.rest (held self.old) to datagram.now }
     {
         if !self.lanes.admits(to, datagram) {
             return Sent::NotTaken;
@@ -72,7 +70,8 @@ impl<R: Rule> Channel for Bottom<R> {
         ensures effect { ReceivedAs (means R.Rule.depth self.old) (means R.Rule.depth self.new) at buffer.old buffer.new result }
         ensures short { length buffer.old < (means R.Rule.depth self.old).longest → (result ≡ None) × (self.new ≡ self.old) }
         ensures idle { 0 < (means R.Rule.depth self.old).depth → (means R.Rule.depth self.old).waiting at ≡ [] → (result ≡ None) × (self.new ≡ self.old) }
-        ensures exactly { (result, buffer.new, store_of self.new.lanes) ≡ received (store_of self.old.lanes) at buffer.old }
+        ensures exactly { (means R.Rule.depth self.old).longest ≤ length buffer.old → (came_in buffer.new result, held self.new) ≡ given_from (held self.old) at }
+        ensures buffer { (result, buffer.new, store_of self.new.lanes) ≡ received (store_of self.old.lanes) at buffer.old }
         ensures rule { self.new.rule ≡ self.old.rule }
     {
         self.lanes.receive(at, buffer)

@@ -1,5 +1,6 @@
 -- What sending and receiving do to the meaning of a channel.
 use Rattle.std.specs.Prelude.{◌≡◌, ℕ, ◌<◌, ◌≤◌, ◌⊎◌, List, length, take, drop, Option, MatchOption}
+use Rattle.std.specs.Option.{option_map}
 use Rattle.nonce.specs.declared.side.Side.{Side}
 use Rattle.channel.specs.Meaning.{Meaning, Within, Without, other}
 use Rattle.channel.specs.declared.sent.Sent.{Sent}
@@ -19,6 +20,10 @@ pub record SentAs (before after : Meaning) (side : Side) (octets : List ℕ) (an
   pub there : (d : List ℕ) → after.may (other side) d → before.may (other side) d
   -- where fewer than the depth wait
   pub adds : Within before octets → length (before.waiting side) < before.depth → Added before after side octets answer
+
+-- what came into a buffer that holds is: the octets of this number at its front, or nothing
+abbrev pub came_in : List ℕ → Option ℕ → Option (List ℕ)
+came_in is answer = option_map (λ k. take k is) answer
 
 -- a datagram of k octets came, into a buffer that held was and holds is
 pub record Came (before : Meaning) (side : Side) (was is : List ℕ) (k : ℕ) : Type 0 where

@@ -5,3 +5,5 @@ pub mod Marks
 pub mod Loopback
 pub mod Marking
 pub mod Marked
+pub mod Behaviour
+pub mod Markers

@@ -2,7 +2,7 @@
 use Rattle.std.specs.Prelude.{◌≡◌, ℕ, ◌<◌, ◌≤◌, List, [], ◌++◌, length, drop, Some, None, Option}
 use Rattle.nonce.specs.declared.side.Side.{Side}
 use Rattle.channel.specs.Meaning.{Meaning, Within, other}
-use Rattle.channel.specs.Effects.{SentAs, ReceivedAs}
+use Rattle.channel.specs.Behaviour.{Behaviour, Sends, Receives}
 use Rattle.channel.specs.declared.sent.Sent.{Sent}
 use Rattle.channel.specs.declared.sent.Sent.TheVariants.{Taken, NotTaken}
 
@@ -12,12 +12,11 @@ After Taken P Q = P
 After NotTaken P Q = Q
 
 -- A send and, if it was taken, a receive; what the channel was between them.
-pub record Looped {C : Type 0} (meaning : C → Meaning) (before after : C) (side : Side) (octets was is : List ℕ) (answer : Option ℕ) : Type 0 where
+pub record Looped {C : Type 0} (behaviour : Behaviour C) (before after : C) (side : Side) (octets was is : List ℕ) (answer : Option ℕ) : Type 0 where
   pub between : C
   pub sent : Sent
-  pub sends : SentAs (meaning before) (meaning between) side octets sent
-  pub unfit : (Within (meaning before) octets → ⊥) → (sent ≡ NotTaken) × (between ≡ before)
-  pub receives : After sent (ReceivedAs (meaning between) (meaning after) side was is answer) ((answer ≡ None) × (is ≡ was) × (after ≡ between))
+  pub sends : Sends behaviour before between side octets sent
+  pub receives : After sent (Receives behaviour between after side was is answer) ((answer ≡ None) × (is ≡ was) × (after ≡ between))
 
 -- nothing waits at the side, and the octets and the buffer have a fitting length
 pub record Ready (m : Meaning) (side : Side) (octets was : List ℕ) : Type 0 where

@@ -13,8 +13,8 @@ pub fn send_then_receive<C: Channel>(
     datagram: &[u8],
     buffer: &mut [u8],
 ) -> Option<usize>
-    ensures steps { Looped C.Channel.meaning channel.old channel.new side datagram.now buffer.old buffer.new result }
-    ensures returned { Ready (C.Channel.meaning channel.old) side datagram.now buffer.old → Returned (C.Channel.meaning channel.old) (C.Channel.meaning channel.new) side datagram.now buffer.old buffer.new result }
+    ensures steps { Looped C.Channel.behaviour channel.old channel.new side datagram.now buffer.old buffer.new result }
+    ensures returned { Ready (C.Channel.behaviour.meaning channel.old) side datagram.now buffer.old → Returned (C.Channel.behaviour.meaning channel.old) (C.Channel.behaviour.meaning channel.new) side datagram.now buffer.old buffer.new result }
 {
     match channel.send(side, datagram) {
         Sent::Taken => channel.receive(side, buffer),

@@ -1,8 +1,9 @@
 //! A layer that marks each datagram: four zero octets stand before the message, as before an IKE message in RFC 3948.
 ghost use Rattle.std.specs.Prelude.{◌≡◌, ◌-◌, ◌<◌, ◌≤◌, ◌↔◌, true, [], length, drop, None, IsSome, IfSome};
 ghost use Rattle.channel.specs.Meaning.{Within};
-ghost use Rattle.channel.specs.Effects.{SentAs, ReceivedAs};
-ghost use Rattle.channel.specs.Marks.{mark, is_marked, passed, marked, Unmarks};
+ghost use Rattle.channel.specs.Effects.{SentAs, ReceivedAs, came_in};
+ghost use Rattle.channel.specs.Marks.{mark, is_marked, passed, marked};
+ghost use Rattle.channel.specs.Markers.{marker_over, SendsMarked, GivesMarked};
 ghost use Rattle.channel.specs.Marking.{marked_sound};
 
 use crate::channel::Channel;
@@ -73,7 +74,7 @@ fn pass_on(datagram: &[u8], buffer: &mut [u8]) -> Option<usize>
 }
 
 impl<C: Channel> Channel for Marker<C> {
-    ghost meaning = { λ s. marked (C.Channel.meaning s.below) };
+    ghost behaviour = { marker_over C.Channel.behaviour };
 
     ghost sound = { λ s. marked_sound _ (C.Channel.sound s.below) };
 
@@ -82,9 +83,9 @@ impl<C: Channel> Channel for Marker<C> {
     }
 
     fn send(&mut self, to: Side, datagram: &[u8]) -> Sent
-        ensures effect { SentAs (marked (C.Channel.meaning self.old.below)) (marked (C.Channel.meaning self.new.below)) to datagram.now result }
-        ensures unfit { (Within (marked (C.Channel.meaning self.old.below)) datagram.now → ⊥) → (result ≡ Sent.NotTaken) × (self.new ≡ self.old) }
-        ensures below { Within (marked (C.Channel.meaning self.old.below)) datagram.now → SentAs (C.Channel.meaning self.old.below) (C.Channel.meaning self.new.below) to (mark datagram.now) result }
+        ensures effect { SentAs (marked (C.Channel.behaviour.meaning self.old.below)) (marked (C.Channel.behaviour.meaning self.new.below)) to datagram.now result }
+        ensures unfit { (Within (marked (C.Channel.behaviour.meaning self.old.below)) datagram.now → ⊥) → (result ≡ Sent.NotTaken) × (self.new ≡ self.old) }
+        ensures exactly { SendsMarked C.Channel.behaviour self.old.below to datagram.now result self.new.below }
     {
         let len = datagram.len();
         if len == 0 || len > self.longest() {
@@ -94,10 +95,10 @@ impl<C: Channel> Channel for Marker<C> {
     }
 
     fn receive(&mut self, at: Side, buffer: &mut [u8]) -> Option<usize>
-        ensures effect { ReceivedAs (marked (C.Channel.meaning self.old.below)) (marked (C.Channel.meaning self.new.below)) at buffer.old buffer.new result }
-        ensures short { length buffer.old < (marked (C.Channel.meaning self.old.below)).longest → (result ≡ None) × (self.new ≡ self.old) }
-        ensures idle { 0 < (marked (C.Channel.meaning self.old.below)).depth → (marked (C.Channel.meaning self.old.below)).waiting at ≡ [] → (result ≡ None) × (self.new ≡ self.old) }
-        ensures below { (marked (C.Channel.meaning self.old.below)).longest ≤ length buffer.old → Unmarks (C.Channel.meaning self.old.below) (C.Channel.meaning self.new.below) at buffer.old buffer.new result }
+        ensures effect { ReceivedAs (marked (C.Channel.behaviour.meaning self.old.below)) (marked (C.Channel.behaviour.meaning self.new.below)) at buffer.old buffer.new result }
+        ensures short { length buffer.old < (marked (C.Channel.behaviour.meaning self.old.below)).longest → (result ≡ None) × (self.new ≡ self.old) }
+        ensures idle { 0 < (marked (C.Channel.behaviour.meaning self.old.below)).depth → (marked (C.Channel.behaviour.meaning self.old.below)).waiting at ≡ [] → (result ≡ None) × (self.new ≡ self.old) }
+        ensures exactly { (marked (C.Channel.behaviour.meaning self.old.below)).longest ≤ length buffer.old → GivesMarked C.Channel.behaviour self.old.below at (came_in buffer.new result) self.new.below }
     {
         if buffer.len() < self.longest() {
             return None;

@@ -87,7 +87,7 @@ impl<B: Book> Endpoint<B> {
 
     /// Asks the peer for a new SA, with this nonce.
     pub fn create<C: Channel>(&mut self, channel: &mut C, nonce: &[u8]) -> Result<Sent, AskRefusal>
-        ensures { Asks C.Channel.meaning self.old channel.old (create_asked self.old nonce.now) result self.new channel.new }
+        ensures { Asks C.Channel.behaviour self.old channel.old (create_asked self.old nonce.now) result self.new channel.new }
     {
         self.begin_create(nonce)?;
         Ok(self.say(Says::Request, channel))
@@ -100,7 +100,7 @@ impl<B: Book> Endpoint<B> {
         own: u32,
         nonce: &[u8],
     ) -> Result<Sent, AskRefusal>
-        ensures { Asks C.Channel.meaning self.old channel.old (rekey_asked self.old own nonce.now) result self.new channel.new }
+        ensures { Asks C.Channel.behaviour self.old channel.old (rekey_asked self.old own nonce.now) result self.new channel.new }
     {
         self.begin_rekey(own, nonce)?;
         Ok(self.say(Says::Request, channel))
@@ -108,7 +108,7 @@ impl<B: Book> Endpoint<B> {
 
     /// Asks the peer to end the SA of this own SPI.
     pub fn delete<C: Channel>(&mut self, channel: &mut C, own: u32) -> Result<Sent, AskRefusal>
-        ensures { Asks C.Channel.meaning self.old channel.old (delete_asked self.old own) result self.new channel.new }
+        ensures { Asks C.Channel.behaviour self.old channel.old (delete_asked self.old own) result self.new channel.new }
     {
         self.begin_delete(own)?;
         Ok(self.say(Says::Request, channel))
@@ -116,7 +116,7 @@ impl<B: Book> Endpoint<B> {
 
     /// Asks the peer for nothing but an answer.
     pub fn check<C: Channel>(&mut self, channel: &mut C) -> Result<Sent, AskRefusal>
-        ensures { Asks C.Channel.meaning self.old channel.old (check_asked self.old) result self.new channel.new }
+        ensures { Asks C.Channel.behaviour self.old channel.old (check_asked self.old) result self.new channel.new }
     {
         self.begin_check()?;
         Ok(self.say(Says::Request, channel))
@@ -124,7 +124,7 @@ impl<B: Book> Endpoint<B> {
 
     /// Sends the outstanding request once more.
     pub fn resend<C: Channel>(&self, channel: &mut C) -> Result<Sent, ResendRefusal>
-        ensures { Resends C.Channel.meaning self.now channel.old result self.now channel.new }
+        ensures { Resends C.Channel.behaviour self.now channel.old result self.now channel.new }
     {
         if self.outstanding.is_none() {
             return Err(ResendRefusal::Quiet);

@@ -61,7 +61,7 @@ impl<B: Book> Endpoint<B> {
         channel: &mut C,
         nonce: &[u8],
     ) -> Result<Delivered, DeliverRefusal>
-        ensures { Delivers C.Channel.meaning self.old channel.old nonce.now result self.new channel.new }
+        ensures { Delivers C.Channel.behaviour self.old channel.old nonce.now result self.new channel.new }
     {
         let nonce = Nonce::new(nonce).ok_or(DeliverRefusal::NonceLength)?;
         let mut room = [0; 256];

@@ -28,7 +28,7 @@ pub(crate) fn take<'a, C: Channel>(
     at: Side,
     room: &'a mut [u8; 256],
 ) -> Option<&'a [u8]>
-    ensures { Comes C.Channel.meaning channel.old channel.new at (option_map (λ s. s.now) result) }
+    ensures { Comes C.Channel.behaviour channel.old channel.new at (option_map (λ s. s.now) result) }
 {
     let len = channel.receive(at, room)?;
     Some(&room[..len])
@@ -37,7 +37,7 @@ pub(crate) fn take<'a, C: Channel>(
 impl<B: Book> Endpoint<B> {
     /// Sends to the peer. This is the one place where an end sends. What is not said counts as taken.
     pub(crate) fn say<C: Channel>(&self, says: Says, channel: &mut C) -> Sent
-        ensures { Replies C.Channel.meaning self.now.side channel.old (said says self.now) result channel.new }
+        ensures { Replies C.Channel.behaviour self.now.side channel.old (said says self.now) result channel.new }
     {
         let octets = match says {
             Says::Nothing => None,

@@ -9,7 +9,8 @@ use Rattle.book.specs.declared.row.Beginner.TheVariants.{ThisEnd, Peer}
 use Rattle.book.specs.declared.row.Row.{Row}
 use Rattle.book.specs.declared.row.RowState.{RowState}
 use Rattle.book.specs.declared.row.RowState.TheVariants as state
-use Rattle.channel.specs.Meaning.{Meaning, other}
+use Rattle.channel.specs.Behaviour.{Behaviour}
+use Rattle.channel.specs.Meaning.{other}
 use Rattle.calls.specs.declared.answers.Answer.{Answer}
 use Rattle.calls.specs.declared.moves.Move.{Move}
 use Rattle.wire.specs.declared.message.Response.{Response}
@@ -129,7 +130,7 @@ module _ {C : Type 0} (i r : ℕ) (v : World C) (x : Ties i r v) where
   has_made A k z h = from_has A k z h.st h.row h.theirs
   has_made B k z h = from_has B k z h.st h.row h.theirs
 
-module _ {C : Type 0} (meaning : C → Meaning) (i r : ℕ) (fits_i : i < 2 ^ 64) (fits_r : r < 2 ^ 64) where
+module _ {C : Type 0} (behaviour : Behaviour C) (i r : ℕ) (fits_i : i < 2 ^ 64) (fits_r : r < 2 ^ 64) where
   abbrev K : Coding
   K = coding i r fits_i fits_r
 
@@ -141,13 +142,13 @@ module _ {C : Type 0} (meaning : C → Meaning) (i r : ℕ) (fits_i : i < 2 ^ 64
 
   -- one call more
   pub step_follows :
-      (us : List (line.World C)) (v : World C) (x : Ties i r v) (m : Move (List ℕ)) (a : Answer) (w : World C) → Alive K meaning Anyhow us (image v x) →
-      (s : Side) → m.side ≡ s → Step meaning v m a w → (y : Ties i r w) × line.StepOn K meaning s (image v x) (call_of m.call) (answer_of a) (image w y)
+      (us : List (line.World C)) (v : World C) (x : Ties i r v) (m : Move (List ℕ)) (a : Answer) (w : World C) → Alive K behaviour.meaning Anyhow us (image v x) →
+      (s : Side) → m.side ≡ s → Step behaviour v m a w → (y : Ties i r w) × line.StepOn K behaviour.meaning s (image v x) (call_of m.call) (answer_of a) (image w y)
   step_follows us v x m a w l A e h =
-      let g = subst (λ s. Called meaning (at s v) v.channel m.call a (at s w) w.channel) e h.this in
+      let g = subst (λ s. Called behaviour (at s v) v.channel m.call a (at s w) w.channel) e h.this in
       let d =
-      called_does meaning i r fits_i fits_r A v.a x.said_a x.busy_a x.named_a x.tied_a (tidy_alive K meaning Anyhow us (image v x) l).0
-      v.channel w.channel w.a (encoded B (image v x).b (image v x).a ((meaning v.channel).may A) l.between.from_q) m.call a g
+      called_does behaviour i r fits_i fits_r A v.a x.said_a x.busy_a x.named_a x.tied_a (tidy_alive K behaviour.meaning Anyhow us (image v x) l).0
+      v.channel w.channel w.a (encoded B (image v x).b (image v x).a ((behaviour.meaning v.channel).may A) l.between.from_q) m.call a g
       in
       let b : w.b ≡ v.b = subst (λ s. at (other s) w ≡ at (other s) v) e h.that in (
         record {
@@ -163,10 +164,10 @@ module _ {C : Type 0} (meaning : C → Meaning) (i r : ℕ) (fits_i : i < 2 ^ 64
         record { this = d.does; that = ap (λ f. node f x.said_b x.busy_b) b },
       )
   step_follows us v x m a w l B e h =
-      let g = subst (λ s. Called meaning (at s v) v.channel m.call a (at s w) w.channel) e h.this in
+      let g = subst (λ s. Called behaviour (at s v) v.channel m.call a (at s w) w.channel) e h.this in
       let d =
-      called_does meaning i r fits_i fits_r B v.b x.said_b x.busy_b x.named_b x.tied_b (tidy_alive K meaning Anyhow us (image v x) l).1
-      v.channel w.channel w.b (encoded A (image v x).a (image v x).b ((meaning v.channel).may B) l.between.from_p) m.call a g
+      called_does behaviour i r fits_i fits_r B v.b x.said_b x.busy_b x.named_b x.tied_b (tidy_alive K behaviour.meaning Anyhow us (image v x) l).1
+      v.channel w.channel w.b (encoded A (image v x).a (image v x).b ((behaviour.meaning v.channel).may B) l.between.from_p) m.call a g
       in
       let b : w.a ≡ v.a = subst (λ s. at (other s) w ≡ at (other s) v) e h.that in (
         record {
@@ -183,20 +184,20 @@ module _ {C : Type 0} (meaning : C → Meaning) (i r : ℕ) (fits_i : i < 2 ^ 64
       )
 
   -- a run, the run of the nodes, and what was ever made in each
-  pub record Followed (v : World C) (ms : List (Move (List ℕ))) (rs : List Answer) (w : World C) (h : Run meaning v ms rs w) (x : Ties i r v) : Type 0 where
+  pub record Followed (v : World C) (ms : List (Move (List ℕ))) (rs : List Answer) (w : World C) (h : Run behaviour v ms rs w) (x : Ties i r v) : Type 0 where
     pub ties : Ties i r w
-    pub run : line.Run K meaning (image v x) (moves_of ms) (answers_of rs) (image w ties)
+    pub run : line.Run K behaviour.meaning (image v x) (moves_of ms) (answers_of rs) (image w ties)
     pub to :
-        (s : Side) (k : ℕ) (y : Row) → ever meaning (MadeAt s k y) v ms rs w h →
-        line_history.ever K meaning (λ (u : line.World C). Has (node_at s u) k (sa_of y)) (image v x) (moves_of ms) (answers_of rs) (image w ties) run
+        (s : Side) (k : ℕ) (y : Row) → ever behaviour (MadeAt s k y) v ms rs w h →
+        line_history.ever K behaviour.meaning (λ (u : line.World C). Has (node_at s u) k (sa_of y)) (image v x) (moves_of ms) (answers_of rs) (image w ties) run
     pub back :
         (s : Side) (k : ℕ) (z : Sa) →
-        line_history.ever K meaning (λ (u : line.World C). Has (node_at s u) k z) (image v x) (moves_of ms) (answers_of rs) (image w ties) run →
-        (y : Row) × ever meaning (MadeAt s k y) v ms rs w h × (sa_of y ≡ z)
+        line_history.ever K behaviour.meaning (λ (u : line.World C). Has (node_at s u) k z) (image v x) (moves_of ms) (answers_of rs) (image w ties) run →
+        (y : Row) × ever behaviour (MadeAt s k y) v ms rs w h × (sa_of y ≡ z)
 
   pub follow :
-      (us : List (line.World C)) (v : World C) (ms : List (Move (List ℕ))) (rs : List Answer) (w : World C) (h : Run meaning v ms rs w) (x : Ties i r v) →
-      Alive K meaning Anyhow us (image v x) → Followed v ms rs w h x
+      (us : List (line.World C)) (v : World C) (ms : List (Move (List ℕ))) (rs : List Answer) (w : World C) (h : Run behaviour v ms rs w) (x : Ties i r v) →
+      Alive K behaviour.meaning Anyhow us (image v x) → Followed v ms rs w h x
   follow us v [] [] w h x l =
       let p = subst (λ w. (y : Ties i r w) × (image v x ≡ image w y)) h (x, refl) in
       record { ties = p.0; run = p.1; to = λ s k y m. made_has i r v x s k y m; back = λ s k z m. has_made i r v x s k z m }
@@ -206,7 +207,7 @@ module _ {C : Type 0} (meaning : C → Meaning) (i r : ℕ) (fits_i : i < 2 ^ 64
       let p = step_follows us v x m a h.0 l m.side refl h.1 in
       let f =
       follow (image h.0 p.0 ∷ us) h.0 ms rs w h.2 p.0
-      (step_alive K meaning Anyhow us (image v x) m.side (call_of m.call) (answer_of a) (image h.0 p.0) p.1 (λ k z. tt) l)
+      (step_alive K behaviour.meaning Anyhow us (image v x) m.side (call_of m.call) (answer_of a) (image h.0 p.0) p.1 (λ k z. tt) l)
       in
       record {
         ties = f.ties;

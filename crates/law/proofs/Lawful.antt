@@ -12,7 +12,8 @@ use Rattle.book.specs.declared.row.Beginner.TheVariants.{ThisEnd, Peer}
 use Rattle.book.specs.declared.row.Row.{Row}
 use Rattle.book.specs.declared.row.RowState.{RowState}
 use Rattle.book.specs.declared.row.RowState.TheVariants as state
-use Rattle.channel.specs.Meaning.{Meaning, Sound, other}
+use Rattle.channel.specs.Behaviour.{Behaviour}
+use Rattle.channel.specs.Meaning.{Sound, other}
 use Rattle.calls.specs.declared.answers.Answer.{Answer}
 use Rattle.calls.specs.declared.answers.Answer.TheVariants as answer
 use Rattle.calls.specs.declared.answers.Delivered.TheVariants.{Done, Again}
@@ -142,10 +143,10 @@ loses_to s r t h = record { s_heir = heir_of r h.here; t_heir = heir_of t h.ther
 loses_back : (s : Side) (r t : Row) → invariant.Loses (first_across s) (sa_of r) (sa_of t) → Loses s r t
 loses_back s r t h = record { here = rekeys_of r h.s_heir; there = rekeys_of t h.t_heir; one = sym h.one; same = sym h.other; loser = lose_back s r t h.less }
 
-module _ {C : Type 0} (meaning : C → Meaning) where
+module _ {C : Type 0} (behaviour : Behaviour C) where
   -- an ask that gives up an SA was accepted
   gave_one :
-      (e e' : End) (c c' : C) (x : Call (List ℕ)) (a : Answer) (k : ℕ) → Called meaning e c x a e' c' → GivesUp (call_of x) (answer_of a) k →
+      (e e' : End) (c c' : C) (x : Call (List ℕ)) (a : Answer) (k : ℕ) → Called behaviour e c x a e' c' → GivesUp (call_of x) (answer_of a) k →
       Names x k × Accepted a
   gave_one e e' c c' (calls.Create n) (answer.Asked (Ok s)) k h g = absurd g
   gave_one e e' c c' (calls.Create n) (answer.Asked (Err f)) k h g = absurd g
@@ -167,7 +168,7 @@ module _ {C : Type 0} (meaning : C → Meaning) where
   gave_one e e' c c' (calls.Deliver n) a k h g = absurd g
 
   gave_run :
-      (v : World C) (ms : List (Move (List ℕ))) (rs : List Answer) (w : World C) (s : Side) (k : ℕ) → Run meaning v ms rs w →
+      (v : World C) (ms : List (Move (List ℕ))) (rs : List Answer) (w : World C) (s : Side) (k : ℕ) → Run behaviour v ms rs w →
       line_history.GivenUpBy (moves_of ms) (answers_of rs) s k → GaveUp ms rs s k
   gave_run v [] rs w s k h g = absurd g
   gave_run v (m ∷ ms) [] w s k h g = absurd h
@@ -191,7 +192,7 @@ module _ {C : Type 0} (meaning : C → Meaning) where
   refused_alike t s n refusal.WrongId = delivered_alike t s
 
   tallied_alike :
-      (e e' : End) (c c' : C) (t : Tally) (s : Side) (x : Call (List ℕ)) (a : Answer) → Called meaning e c x a e' c' →
+      (e e' : End) (c c' : C) (t : Tally) (s : Side) (x : Call (List ℕ)) (a : Answer) → Called behaviour e c x a e' c' →
       line_rest.tallied (as_line t) s (call_of x) (answer_of a) ≡ as_line (laws.tallied t s a)
   tallied_alike e e' c c' t s (calls.Create n) (answer.Asked (Ok a)) h = refl
   tallied_alike e e' c c' t s (calls.Create n) (answer.Asked (Err f)) h = refl
@@ -219,7 +220,7 @@ module _ {C : Type 0} (meaning : C → Meaning) where
   tallied_alike e e' c c' t s (calls.Deliver n) (answer.Heard (Err f)) h = refused_alike t s n f
 
   tally_alike :
-      (v : World C) (ms : List (Move (List ℕ))) (rs : List Answer) (w : World C) (t : Tally) → Run meaning v ms rs w →
+      (v : World C) (ms : List (Move (List ℕ))) (rs : List Answer) (w : World C) (t : Tally) → Run behaviour v ms rs w →
       line_rest.tally (as_line t) (moves_of ms) (answers_of rs) ≡ as_line (tally t ms rs)
   tally_alike v [] rs w t h = refl
   tally_alike v (m ∷ ms) [] w t h = refl
@@ -258,8 +259,8 @@ node_rows : {C : Type 0} {i r : ℕ} (w : World C) (y : Ties i r w) (s : Side) �
 node_rows w y A = refl
 node_rows w y B = refl
 
-module _ {C : Type 0} (meaning : C → Meaning) (i r : ℕ) (fits_i : i < 2 ^ 64) (fits_r : r < 2 ^ 64) (v : World C) (ms : List (Move (List ℕ))) (rs : List Answer) (w : World C)
-    (h : Run meaning v ms rs w) (x : Ties i r v) (f : Followed meaning i r fits_i fits_r v ms rs w h x) where
+module _ {C : Type 0} (behaviour : Behaviour C) (i r : ℕ) (fits_i : i < 2 ^ 64) (fits_r : r < 2 ^ 64) (v : World C) (ms : List (Move (List ℕ))) (rs : List Answer) (w : World C)
+    (h : Run behaviour v ms rs w) (x : Ties i r v) (f : Followed behaviour i r fits_i fits_r v ms rs w h x) where
   abbrev K : Coding
   K = coding i r fits_i fits_r
 
@@ -275,9 +276,9 @@ module _ {C : Type 0} (meaning : C → Meaning) (i r : ℕ) (fits_i : i < 2 ^ 64
   succession :
       (s : Side) →
       Succeeds (λ (u : line.World C). node_at s u) (λ (u : line.World C). node_at (other s) u) (first_across s) s (other s)
-      (λ F. line_history.ever K meaning F (image v x) (moves_of ms) (answers_of rs) (image w f.ties) f.run)
+      (λ F. line_history.ever K behaviour.meaning F (image v x) (moves_of ms) (answers_of rs) (image w f.ties) f.run)
       (line_history.GivenUpBy (moves_of ms) (answers_of rs)) (image w f.ties) →
-      Succession s (λ F. ever meaning F v ms rs w h) (GaveUp ms rs) w
+      Succession s (λ F. ever behaviour F v ms rs w h) (GaveUp ms rs) w
   succession s S =
       record {
         rekeyed = λ own y e k.
@@ -294,7 +295,7 @@ module _ {C : Type 0} (meaning : C → Meaning) (i r : ℕ) (fits_i : i < 2 ^ 64
             (λ j z g l.
             let q = f.back (other s) j z g in
             beat j q.0 q.1 (loses_back s y q.0 (subst (invariant.Loses (first_across s) (sa_of y)) (sym q.2) l)))
-            (λ g. mine (gave_run meaning v ms rs w s own h g)) (λ g. theirs (gave_run meaning v ms rs w (other s) y.peer h g))
+            (λ g. mine (gave_run behaviour v ms rs w s own h g)) (λ g. theirs (gave_run behaviour v ms rs w (other s) y.peer h g))
             in
             record {
               here = present s own p.0.0 (sa_of y) p.0.1;
@@ -307,9 +308,9 @@ both : (F : Side → Type 0) → F A → F B → (s : Side) → F s
 both F a b A = a
 both F a b B = b
 
-module _ {C : Type 0} (meaning : C → Meaning) (sound : (c : C) → Sound (meaning c)) where
+module _ {C : Type 0} (behaviour : Behaviour C) (sound : (c : C) → Sound (behaviour.meaning c)) where
   -- the law at the last moment
-  law_at : (v : World C) (ms : List (Move (List ℕ))) (rs : List Answer) (w : World C) (h : Run meaning v ms rs w) → Start meaning v → Law meaning v ms rs w h
+  law_at : (v : World C) (ms : List (Move (List ℕ))) (rs : List Answer) (w : World C) (h : Run behaviour v ms rs w) → Start behaviour v → Law behaviour v ms rs w h
   law_at v ms rs w h s =
       let m = s.making in
       let i = m.initiator in
@@ -327,7 +328,7 @@ module _ {C : Type 0} (meaning : C → Meaning) (sound : (c : C) → Sound (mean
         named_a = subst (Named i r A) (sym s.a) (made_named m A s.most_a);
         named_b = subst (Named i r B) (sym s.b) (made_named m B s.most_b);
       } in
-      let start : line.Start K meaning (image v x) = record {
+      let start : line.Start K behaviour.meaning (image v x) = record {
         id_a = m.a.id;
         id_b = m.b.id;
         within_a = omega (arith, s.fit.id_a);
@@ -342,10 +343,10 @@ module _ {C : Type 0} (meaning : C → Meaning) (sound : (c : C) → Sound (mean
         b_made = ap (λ e. node e None idle) s.b;
         clean = s.clean;
       } in
-      let f : Followed meaning i r fits_i fits_r v ms rs w h x =
-      follow meaning i r fits_i fits_r (image v x ∷ []) v ms rs w h x (starts K meaning (λ s k. Unit {0}) (image v x) start)
+      let f : Followed behaviour i r fits_i fits_r v ms rs w h x =
+      follow behaviour i r fits_i fits_r (image v x ∷ []) v ms rs w h x (starts K behaviour.meaning (λ s k. Unit {0}) (image v x) start)
       in
-      let l = law_of K 160 (short i r fits_i fits_r) meaning (image v x) (moves_of ms) (answers_of rs) (image w f.ties) f.run start in
+      let l = law_of K 160 (short i r fits_i fits_r) behaviour.meaning (image v x) (moves_of ms) (answers_of rs) (image w f.ties) f.run start in
       let quiet : Quiet w → line_law.Quiet (image w f.ties) =
       λ q. record {
         a = idle_of w.a w.a.outstanding f.ties.busy_a f.ties.tied_a.out q.a;
@@ -355,13 +356,13 @@ module _ {C : Type 0} (meaning : C → Meaning) (sound : (c : C) → Sound (mean
         mirrors = λ q. both (λ t. Mirrored t w)
             (mirrored w.a.shelf.rows w.b.shelf.rows (l.mirrors.a_in_b (quiet q).a (quiet q).b))
             (mirrored w.b.shelf.rows w.a.shelf.rows (l.mirrors.b_in_a (quiet q).a (quiet q).b));
-        succession = λ q. both (λ t. Succession t (λ F. ever meaning F v ms rs w h) (GaveUp ms rs) w)
-            (succession meaning i r fits_i fits_r v ms rs w h x f A (l.made_by_a (quiet q)))
-            (succession meaning i r fits_i fits_r v ms rs w h x f B (l.made_by_b (quiet q)));
+        succession = λ q. both (λ t. Succession t (λ F. ever behaviour F v ms rs w h) (GaveUp ms rs) w)
+            (succession behaviour i r fits_i fits_r v ms rs w h x f A (l.made_by_a (quiet q)))
+            (succession behaviour i r fits_i fits_r v ms rs w h x f B (l.made_by_b (quiet q)));
         rest = λ deep calm n.
             let z =
             l.rest (sound v.channel) (record { deep = deep.deep; long = deep.long }) (no_resend ms calm)
-            (subst (λ t. 8 ≤ t) (sym (ap (λ (t : line_rest.Tally). t.rounds) (tally_alike meaning v ms rs w (record { rounds = 0; half = false }) h))) n)
+            (subst (λ t. 8 ≤ t) (sym (ap (λ (t : line_rest.Tally). t.rounds) (tally_alike behaviour v ms rs w (record { rounds = 0; half = false }) h))) n)
             in
             record {
               a = none_of w.a w.a.outstanding f.ties.busy_a f.ties.tied_a.out z.a;
@@ -369,21 +370,21 @@ module _ {C : Type 0} (meaning : C → Meaning) (sound : (c : C) → Sound (mean
             };
       }
 
-  pub lawful : (v : World C) (ms : List (Move (List ℕ))) (rs : List Answer) (w : World C) → Run meaning v ms rs w → Lawful meaning v ms rs w
+  pub lawful : (v : World C) (ms : List (Move (List ℕ))) (rs : List Answer) (w : World C) → Run behaviour v ms rs w → Lawful behaviour v ms rs w
   lawful v ms rs w h =
-      record { run = h; law = λ s n. let f = front meaning n v ms rs w h in law_at v _ _ f.world f.run s }
+      record { run = h; law = λ s n. let f = front behaviour n v ms rs w h in law_at v _ _ f.world f.run s }
 
 -- one run after another
 pub run_append :
-    {C : Type 0} (meaning : C → Meaning) (v u w : World C) (ms ns : List (Move (List ℕ))) (rs ss : List Answer) → Run meaning v ms rs u →
-    Run meaning u ns ss w → Run meaning v (ms ++ ns) (rs ++ ss) w
-run_append meaning v u w [] ns [] ss h k = subst (λ x. Run meaning x ns ss w) (sym h) k
-run_append meaning v u w [] ns (r ∷ rs) ss h k = absurd h
-run_append meaning v u w (m ∷ ms) ns [] ss h k = absurd h
-run_append meaning v u w (m ∷ ms) ns (r ∷ rs) ss h k = (h.0, h.1, run_append meaning h.0 u w ms ns rs ss h.2 k)
+    {C : Type 0} (behaviour : Behaviour C) (v u w : World C) (ms ns : List (Move (List ℕ))) (rs ss : List Answer) → Run behaviour v ms rs u →
+    Run behaviour u ns ss w → Run behaviour v (ms ++ ns) (rs ++ ss) w
+run_append behaviour v u w [] ns [] ss h k = subst (λ x. Run behaviour x ns ss w) (sym h) k
+run_append behaviour v u w [] ns (r ∷ rs) ss h k = absurd h
+run_append behaviour v u w (m ∷ ms) ns [] ss h k = absurd h
+run_append behaviour v u w (m ∷ ms) ns (r ∷ rs) ss h k = (h.0, h.1, run_append behaviour h.0 u w ms ns rs ss h.2 k)
 
 pub goes_on :
-    {C : Type 0} (meaning : C → Meaning) → ((c : C) → Sound (meaning c)) → (u : World C) (ms : List (Move (List ℕ))) (rs : List Answer) (w : World C) →
-    Run meaning u ms rs w → GoesOn meaning u ms rs w
-goes_on meaning sound u ms rs w h v before said k =
-    lawful meaning sound v (before ++ ms) (said ++ rs) w (run_append meaning v u w before ms said rs k h)
+    {C : Type 0} (behaviour : Behaviour C) → ((c : C) → Sound (behaviour.meaning c)) → (u : World C) (ms : List (Move (List ℕ))) (rs : List Answer) (w : World C) →
+    Run behaviour u ms rs w → GoesOn behaviour u ms rs w
+goes_on behaviour sound u ms rs w h v before said k =
+    lawful behaviour sound v (before ++ ms) (said ++ rs) w (run_append behaviour v u w before ms said rs k h)

@@ -4,6 +4,7 @@ use Rattle.std.proofs.lemmas.Bool.{leb-true}
 use Rattle.nonce.specs.Nonces.{nonce_long}
 use Rattle.nonce.specs.declared.side.Side.{Side}
 use Rattle.nonce.specs.declared.side.Side.TheVariants.{A, B}
+use Rattle.channel.specs.Behaviour.{Behaviour, Sends}
 use Rattle.channel.specs.Meaning.{Meaning, In, Within, other}
 use Rattle.channel.specs.declared.sent.Sent.{Sent}
 use Rattle.channel.specs.declared.sent.Sent.TheVariants.{Taken, NotTaken}
@@ -21,7 +22,7 @@ use Rattle.law.specs.Ends.{End}
 use Rattle.law.specs.Asks as asks
 use Rattle.law.specs.Asks.{Asked}
 use Rattle.law.specs.Deliveries.{Heard, refused, again, done, heard}
-use Rattle.law.specs.Effects.{Sends, Comes, Replies, Acts, Resent}
+use Rattle.law.specs.Effects.{Comes, Replies, Acts, Resent}
 use Rattle.law.specs.Effects as effects
 use Rattle.law.specs.Runs.{World, Called, Step, Run}
 
@@ -51,6 +52,18 @@ more kept o ds = ds ++ (o ∷ [])
 more lost o ds = ds
 more twice o ds = ds ++ (o ∷ (o ∷ []))
 
+-- a send is not taken, or taken with some fate; a receive gives the first
+abbrev gives_first : List (List ℕ) → Lanes → Side → Option (List ℕ) → Lanes → Type 0
+gives_first [] c at came d = (came ≡ None) × (d ≡ c)
+gives_first (x ∷ xs) c at came d = (came ≡ Some x) × (d ≡ with_lane at xs c)
+
+abbrev pub behaviour : Behaviour Lanes
+behaviour = record {
+  meaning = meaning;
+  sends = λ c to o t d. ((t ≡ NotTaken) × (d ≡ c)) ⊎ ((f : Fate) × (t ≡ Taken) × (d ≡ with_lane to (more f o (lane to c)) c));
+  gives = λ c at came d. gives_first (lane at c) c at came d;
+}
+
 in_more : (o d : List ℕ) (ds : List (List ℕ)) (xs : List (List ℕ)) → (In d xs → o ≡ d) → In d (ds ++ xs) → In d ds ⊎ ((Taken ≡ Taken) × (o ≡ d))
 in_more o d [] xs f h = inr (refl, f h)
 in_more o d (x ∷ ds) xs f h =
@@ -71,22 +84,25 @@ came_of twice o d ds h = in_more o d ds (o ∷ (o ∷ [])) (only_two o d) h
 pub record Sending (c : Lanes) (to : Side) (o : List ℕ) : Type 0 where
   pub answer : Sent
   pub lanes : Lanes
-  pub sends : Sends meaning c lanes to o answer
+  pub sends : Sends behaviour c lanes to o answer
 
-pub sends_to : (f : Fate) (c : Lanes) (to : Side) (o : List ℕ) → Within (meaning c) o → Sends meaning c (with_lane to (more f o (lane to c)) c) to o Taken
+pub sends_to : (f : Fate) (c : Lanes) (to : Side) (o : List ℕ) → Within (meaning c) o → Sends behaviour c (with_lane to (more f o (lane to c)) c) to o Taken
 sends_to f c A o w = record {
   effect = record { longest = refl; here = λ d h. came_of f o d c.a h; there = λ d h. h; adds = λ p l. absurd (omega (arith, l)) };
   unfit = λ g. absurd (g w);
+  exactly = inr (f, refl, refl);
 }
 sends_to f c B o w = record {
   effect = record { longest = refl; here = λ d h. came_of f o d c.b h; there = λ d h. h; adds = λ p l. absurd (omega (arith, l)) };
   unfit = λ g. absurd (g w);
+  exactly = inr (f, refl, refl);
 }
 
-pub unsent : (c : Lanes) (to : Side) (o : List ℕ) → Sends meaning c c to o NotTaken
+pub unsent : (c : Lanes) (to : Side) (o : List ℕ) → Sends behaviour c c to o NotTaken
 unsent c to o = record {
   effect = record { longest = refl; here = λ d h. inl h; there = λ d h. h; adds = λ p l. absurd (omega (arith, l)) };
   unfit = λ g. (refl, refl);
+  exactly = inl (refl, refl);
 }
 
 abbrev send_by : (f : Fate) (c : Lanes) (to : Side) (o : List ℕ) (p q : Bool) → leb 1 (length o) ≡ p → leb (length o) 256 ≡ q → Sending c to o
@@ -101,7 +117,7 @@ send f c to o = send_by f c to o (leb 1 (length o)) (leb (length o) 256) refl re
 record Receiving (c : Lanes) (at : Side) : Type 0 where
   came : Option (List ℕ)
   lanes : Lanes
-  comes : Comes meaning c lanes at came
+  comes : Comes behaviour c lanes at came
 
 pub fewer_a : (c : Lanes) (d : List ℕ) (ds : List (List ℕ)) → c.a ≡ d ∷ ds → (s : Side) (x : List ℕ) → In x (lane s (with_lane A ds c)) → In x (lane s c)
 fewer_a c d ds e A x h = subst (In x) (sym e) (inr h)
@@ -115,7 +131,7 @@ abbrev receive_by : (c : Lanes) (at : Side) (ds : List (List ℕ)) → lane at c
 receive_by c at [] e = record {
   came = None;
   lanes = c;
-  comes = record { longest = refl; only = λ s d h. h; could = tt; removes = λ l. absurd (omega (arith, l)); idle = λ l. absurd (omega (arith, l)) };
+  comes = record { longest = refl; only = λ s d h. h; could = tt; removes = λ l. absurd (omega (arith, l)); idle = λ l. absurd (omega (arith, l)); exactly = subst (λ ys. gives_first ys c at None c) (sym e) (refl, refl) };
 }
 receive_by c A (d ∷ ds) e = record {
   came = Some d;
@@ -126,6 +142,7 @@ receive_by c A (d ∷ ds) e = record {
     could = subst (In d) (sym e) (inl refl);
     removes = λ l. absurd (omega (arith, l));
     idle = λ l. absurd (omega (arith, l));
+    exactly = subst (λ ys. gives_first ys c A (Some d) (with_lane A ds c)) (sym e) (refl, refl);
   };
 }
 receive_by c B (d ∷ ds) e = record {
@@ -137,6 +154,7 @@ receive_by c B (d ∷ ds) e = record {
     could = subst (In d) (sym e) (inl refl);
     removes = λ l. absurd (omega (arith, l));
     idle = λ l. absurd (omega (arith, l));
+    exactly = subst (λ ys. gives_first ys c B (Some d) (with_lane B ds c)) (sym e) (refl, refl);
   };
 }
 
@@ -148,14 +166,14 @@ pub record Played (e : End) (c : Lanes) (x : Call (List ℕ)) : Type 0 where
   pub answer : Answer
   pub end : End
   pub lanes : Lanes
-  pub called : Called meaning e c x answer end lanes
+  pub called : Called behaviour e c x answer end lanes
 
 -- an ask, a resend and a delivery, each with its effect
 record Asking (e : End) (c : Lanes) (q : Asked) : Type 0 where
   answer : Result Sent Rattle.calls.specs.declared.refusals.AskRefusal.AskRefusal
   end : End
   lanes : Lanes
-  does : effects.Asks meaning e c q answer end lanes
+  does : effects.Asks behaviour e c q answer end lanes
 
 abbrev play_ask : (f : Fate) (e : End) (c : Lanes) (q : Asked) → Asking e c q
 play_ask f e c (Err g) = record { answer = Err g; end = e; lanes = c; does = (refl, refl, refl) }
@@ -166,7 +184,7 @@ play_ask f e c (Ok d) =
 record Resending (e : End) (c : Lanes) (q : Result (List ℕ) ResendRefusal) : Type 0 where
   answer : Result Sent ResendRefusal
   lanes : Lanes
-  does : Resent meaning e c q answer e lanes
+  does : Resent behaviour e c q answer e lanes
 
 abbrev play_resend : (f : Fate) (e : End) (c : Lanes) (q : Result (List ℕ) ResendRefusal) → Resending e c q
 play_resend f e c (Err g) = record { answer = Err g; lanes = c; does = (refl, refl, refl) }
@@ -178,7 +196,7 @@ record Hearing (e : End) (c : Lanes) (h : Heard) : Type 0 where
   answer : Result Delivered DeliverRefusal
   end : End
   lanes : Lanes
-  does : Acts meaning e c h answer end lanes
+  does : Acts behaviour e c h answer end lanes
 
 abbrev play_heard : (f : Fate) (e : End) (c : Lanes) (h : Heard) → Hearing e c h
 play_heard f e c (refused g) = record { answer = Err g; end = e; lanes = c; does = (refl, refl, refl) }
@@ -194,7 +212,7 @@ record Delivering (e : End) (c : Lanes) (n : List ℕ) (b : Bool) : Type 0 where
   answer : Result Delivered DeliverRefusal
   end : End
   lanes : Lanes
-  does : MatchBool b (effects.Takes meaning e c n answer end lanes) ((answer ≡ Err NonceLength) × (end ≡ e) × (lanes ≡ c))
+  does : MatchBool b (effects.Takes behaviour e c n answer end lanes) ((answer ≡ Err NonceLength) × (end ≡ e) × (lanes ≡ c))
 
 abbrev play_deliver : (f : Fate) (e : End) (c : Lanes) (n : List ℕ) (b : Bool) → Delivering e c n b
 play_deliver f e c n false = record { answer = Err NonceLength; end = e; lanes = c; does = (refl, refl, refl) }
@@ -208,7 +226,7 @@ play_deliver f e c n true =
       does = record { came = r.came; between = r.lanes; comes = r.comes; acts = h.does };
     }
 
-abbrev asked_as : (e : End) (c : Lanes) (x : Call (List ℕ)) (q : Asked) → ((a : Answer) (e' : End) (c' : Lanes) → Rattle.law.specs.Runs.AskedAs meaning e c q a e' c' → Called meaning e c x a e' c') → Asking e c q → Played e c x
+abbrev asked_as : (e : End) (c : Lanes) (x : Call (List ℕ)) (q : Asked) → ((a : Answer) (e' : End) (c' : Lanes) → Rattle.law.specs.Runs.AskedAs behaviour e c q a e' c' → Called behaviour e c x a e' c') → Asking e c q → Played e c x
 asked_as e c x q f p = record { answer = answer.Asked p.answer; end = p.end; lanes = p.lanes; called = f (answer.Asked p.answer) p.end p.lanes p.does }
 
 abbrev play : (f : Fate) (e : End) (c : Lanes) (x : Call (List ℕ)) → Played e c x
@@ -231,7 +249,7 @@ pub record Turn : Type 0 where
 record Stepping (v : World Lanes) (m : Move (List ℕ)) : Type 0 where
   answer : Answer
   world : World Lanes
-  step : Step meaning v m answer world
+  step : Step behaviour v m answer world
 
 abbrev step_by : (v : World Lanes) (s : Side) (x : Call (List ℕ)) (f : Fate) → Stepping v (record { side = s; call = x })
 step_by v A x f =
@@ -249,7 +267,7 @@ moves (t ∷ ts) = t.move ∷ moves ts
 pub record Running (v : World Lanes) (ts : List Turn) : Type 0 where
   pub answers : List Answer
   pub world : World Lanes
-  pub run : Run meaning v (moves ts) answers world
+  pub run : Run behaviour v (moves ts) answers world
 
 abbrev pub run : (v : World Lanes) (ts : List Turn) → Running v ts
 run v [] = record { answers = []; world = v; run = refl }

@@ -15,7 +15,7 @@ use Rattle.law.specs.Asks.{create_asked, rekey_asked, delete_asked, check_asked}
 use Rattle.law.specs.Requests.{answered}
 use Rattle.law.specs.Responses.{settled}
 use Rattle.law.specs.Runs.{World, Start}
-use Rattle.law.proofs.Playing.{Lanes, Fate, kept, lost, twice, Turn, Running, run, meaning}
+use Rattle.law.proofs.Playing.{Lanes, Fate, kept, lost, twice, Turn, Running, run, meaning, behaviour}
 
 abbrev n : ℕ → List ℕ
 n x = replicate 16 x
@@ -31,7 +31,7 @@ empty_lane : (s : Side) (d : List ℕ) → (meaning v.channel).may s d → ⊥
 empty_lane A d h = h
 empty_lane B d h = h
 
-starts : Start meaning v
+starts : Start behaviour v
 starts = record {
   making = making;
   most_a = 16;

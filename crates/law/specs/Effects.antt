@@ -2,10 +2,10 @@
 use Rattle.std.specs.Prelude.{◌≡◌, ℕ, ◌<◌, ◌≤◌, List, [], length, IfSome, Some, None, Ok, Err, MatchBool, Option, Result, MatchOption}
 use Rattle.nonce.specs.Nonces.{nonce_long}
 use Rattle.nonce.specs.declared.side.Side.{Side}
-use Rattle.channel.specs.Meaning.{Meaning, Within, Without, other}
-use Rattle.channel.specs.Effects.{SentAs}
+use Rattle.channel.specs.Behaviour.{Behaviour, Sends}
+use Rattle.channel.specs.Meaning.{Meaning, Without, other}
 use Rattle.channel.specs.declared.sent.Sent.{Sent}
-use Rattle.channel.specs.declared.sent.Sent.TheVariants.{Taken, NotTaken}
+use Rattle.channel.specs.declared.sent.Sent.TheVariants.{Taken}
 use Rattle.calls.specs.declared.answers.Delivered.{Delivered}
 use Rattle.calls.specs.declared.answers.Delivered.TheVariants.{Done, Again}
 use Rattle.calls.specs.declared.refusals.AskRefusal.{AskRefusal}
@@ -16,11 +16,6 @@ use Rattle.law.specs.Ends.{End}
 use Rattle.law.specs.Asks.{Asked, resend_asked}
 use Rattle.law.specs.Deliveries.{Heard, refused, again, done, heard}
 
--- octets are sent to a side, by the promises of the channel's send
-pub record Sends {C : Type 0} (meaning : C → Meaning) (c c' : C) (to : Side) (octets : List ℕ) (answer : Sent) : Type 0 where
-  pub effect : SentAs (meaning c) (meaning c') to octets answer
-  pub unfit : (Within (meaning c) octets → ⊥) → (answer ≡ NotTaken) × (c' ≡ c)
-
 -- a datagram that waited at the side came, and waits once less
 pub record TakenOut (before after : Meaning) (at : Side) (came : Option (List ℕ)) : Type 0 where
   pub here : MatchOption came ⊥ (λ d. Without (before.waiting at) d (after.waiting at))
@@ -28,50 +23,51 @@ pub record TakenOut (before after : Meaning) (at : Side) (came : Option (List �
   pub there : after.waiting (other at) ≡ before.waiting (other at)
 
 -- a datagram or nothing is taken at a side, by the promises of the channel's receive into a buffer that is long enough
-pub record Comes {C : Type 0} (meaning : C → Meaning) (c c' : C) (at : Side) (came : Option (List ℕ)) : Type 0 where
-  pub longest : (meaning c').longest ≡ (meaning c).longest
-  pub only : (e : Side) (d : List ℕ) → (meaning c').may e d → (meaning c).may e d
-  pub could : IfSome came ((meaning c).may at)
+pub record Comes {C : Type 0} (behaviour : Behaviour C) (c c' : C) (at : Side) (came : Option (List ℕ)) : Type 0 where
+  pub longest : (behaviour.meaning c').longest ≡ (behaviour.meaning c).longest
+  pub only : (e : Side) (d : List ℕ) → (behaviour.meaning c').may e d → (behaviour.meaning c).may e d
+  pub could : IfSome came ((behaviour.meaning c).may at)
   pub removes :
-      0 < length ((meaning c).waiting at) → length ((meaning c).waiting at) ≤ (meaning c).depth →
-      TakenOut (meaning c) (meaning c') at came
-  pub idle : 0 < (meaning c).depth → (meaning c).waiting at ≡ [] → (came ≡ None) × (c' ≡ c)
+      0 < length ((behaviour.meaning c).waiting at) → length ((behaviour.meaning c).waiting at) ≤ (behaviour.meaning c).depth →
+      TakenOut (behaviour.meaning c) (behaviour.meaning c') at came
+  pub idle : 0 < (behaviour.meaning c).depth → (behaviour.meaning c).waiting at ≡ [] → (came ≡ None) × (c' ≡ c)
+  pub exactly : behaviour.gives c at came c'
 
 -- Create, rekey, delete and check, by what is asked: a refusal leaves all as it was, else the request is sent to the peer.
-abbrev pub Asks : {C : Type 0} → (C → Meaning) → End → C → Asked → Result Sent AskRefusal → End → C → Type 0
-Asks meaning e c (Err f) r e' c' = (r ≡ Err f) × (e' ≡ e) × (c' ≡ c)
-Asks meaning e c (Ok d) r e' c' =
-    (s : Sent) × (r ≡ Ok s) × (e' ≡ d.end) × Sends meaning c c' (other e.side) d.says s
+abbrev pub Asks : {C : Type 0} → Behaviour C → End → C → Asked → Result Sent AskRefusal → End → C → Type 0
+Asks behaviour e c (Err f) r e' c' = (r ≡ Err f) × (e' ≡ e) × (c' ≡ c)
+Asks behaviour e c (Ok d) r e' c' =
+    (s : Sent) × (r ≡ Ok s) × (e' ≡ d.end) × Sends behaviour c c' (other e.side) d.says s
 
 -- resend, by the octets that are to be sent
-abbrev pub Resent : {C : Type 0} → (C → Meaning) → End → C → Result (List ℕ) ResendRefusal → Result Sent ResendRefusal → End → C → Type 0
-Resent meaning e c (Err f) r e' c' = (r ≡ Err f) × (e' ≡ e) × (c' ≡ c)
-Resent meaning e c (Ok o) r e' c' = (s : Sent) × (r ≡ Ok s) × (e' ≡ e) × Sends meaning c c' (other e.side) o s
+abbrev pub Resent : {C : Type 0} → Behaviour C → End → C → Result (List ℕ) ResendRefusal → Result Sent ResendRefusal → End → C → Type 0
+Resent behaviour e c (Err f) r e' c' = (r ≡ Err f) × (e' ≡ e) × (c' ≡ c)
+Resent behaviour e c (Ok o) r e' c' = (s : Sent) × (r ≡ Ok s) × (e' ≡ e) × Sends behaviour c c' (other e.side) o s
 
-abbrev pub Resends : {C : Type 0} → (C → Meaning) → End → C → Result Sent ResendRefusal → End → C → Type 0
-Resends meaning e c r e' c' = Resent meaning e c (resend_asked e.outstanding) r e' c'
+abbrev pub Resends : {C : Type 0} → Behaviour C → End → C → Result Sent ResendRefusal → End → C → Type 0
+Resends behaviour e c r e' c' = Resent behaviour e c (resend_asked e.outstanding) r e' c'
 
 -- what goes out with something that was done, if anything
-abbrev pub Replies : {C : Type 0} → (C → Meaning) → Side → C → Option (List ℕ) → Sent → C → Type 0
-Replies meaning s c None t c' = (t ≡ Taken) × (c' ≡ c)
-Replies meaning s c (Some o) t c' = Sends meaning c c' (other s) o t
+abbrev pub Replies : {C : Type 0} → Behaviour C → Side → C → Option (List ℕ) → Sent → C → Type 0
+Replies behaviour s c None t c' = (t ≡ Taken) × (c' ≡ c)
+Replies behaviour s c (Some o) t c' = Sends behaviour c c' (other s) o t
 
 -- what is heard is acted on
-abbrev pub Acts : {C : Type 0} → (C → Meaning) → End → C → Heard → Result Delivered DeliverRefusal → End → C → Type 0
-Acts meaning e c (refused f) r e' c' = (r ≡ Err f) × (e' ≡ e) × (c' ≡ c)
-Acts meaning e c (again o) r e' c' =
-    (s : Sent) × (r ≡ Ok (Again s)) × (e' ≡ e) × Sends meaning c c' (other e.side) o s
-Acts meaning e c (done d o) r e' c' =
-    (s : Sent) × (r ≡ Ok (Done s)) × (e' ≡ d) × Replies meaning e.side c o s c'
+abbrev pub Acts : {C : Type 0} → Behaviour C → End → C → Heard → Result Delivered DeliverRefusal → End → C → Type 0
+Acts behaviour e c (refused f) r e' c' = (r ≡ Err f) × (e' ≡ e) × (c' ≡ c)
+Acts behaviour e c (again o) r e' c' =
+    (s : Sent) × (r ≡ Ok (Again s)) × (e' ≡ e) × Sends behaviour c c' (other e.side) o s
+Acts behaviour e c (done d o) r e' c' =
+    (s : Sent) × (r ≡ Ok (Done s)) × (e' ≡ d) × Replies behaviour e.side c o s c'
 
 -- one datagram, or nothing, is taken from the channel, and the end acts on it
-pub record Takes {C : Type 0} (meaning : C → Meaning) (e : End) (c : C) (nonce : List ℕ) (r : Result Delivered DeliverRefusal) (e' : End) (c' : C) : Type 0 where
+pub record Takes {C : Type 0} (behaviour : Behaviour C) (e : End) (c : C) (nonce : List ℕ) (r : Result Delivered DeliverRefusal) (e' : End) (c' : C) : Type 0 where
   pub came : Option (List ℕ)
   pub between : C
-  pub comes : Comes meaning c between e.side came
-  pub acts : Acts meaning e between (heard e nonce came) r e' c'
+  pub comes : Comes behaviour c between e.side came
+  pub acts : Acts behaviour e between (heard e nonce came) r e' c'
 
 -- deliver: a nonce of a wrong length is refused before anything is taken
-abbrev pub Delivers : {C : Type 0} → (C → Meaning) → End → C → List ℕ → Result Delivered DeliverRefusal → End → C → Type 0
-Delivers meaning e c nonce r e' c' =
-    MatchBool (nonce_long nonce) (Takes meaning e c nonce r e' c') ((r ≡ Err NonceLength) × (e' ≡ e) × (c' ≡ c))
+abbrev pub Delivers : {C : Type 0} → Behaviour C → End → C → List ℕ → Result Delivered DeliverRefusal → End → C → Type 0
+Delivers behaviour e c nonce r e' c' =
+    MatchBool (nonce_long nonce) (Takes behaviour e c nonce r e' c') ((r ≡ Err NonceLength) × (e' ≡ e) × (c' ≡ c))

@@ -7,6 +7,7 @@ use Rattle.book.specs.Rows.{kept_octets, mirrors}
 use Rattle.book.specs.Shelves.{lookup}
 use Rattle.book.specs.declared.row.Beginner.TheVariants.{Peer}
 use Rattle.book.specs.declared.row.Row.{Row}
+use Rattle.channel.specs.Behaviour.{Behaviour}
 use Rattle.channel.specs.Meaning.{Meaning, other}
 use Rattle.calls.specs.declared.moves.Call.{Call}
 use Rattle.calls.specs.declared.moves.Call.TheVariants.{Create, Rekey, Delete, Check, Resend, Deliver}
@@ -157,41 +158,41 @@ pub record HoldsTwo (m : Meaning) : Type 0 where
   pub long : 160 ≤ m.longest
 
 -- The law at the last moment of a run.
-pub record Law {C : Type 0} (meaning : C → Meaning) (v : World C) (ms : List (Move (List ℕ))) (rs : List Answer) (w : World C) (h : Run meaning v ms rs w) : Type 0 where
+pub record Law {C : Type 0} (behaviour : Behaviour C) (v : World C) (ms : List (Move (List ℕ))) (rs : List Answer) (w : World C) (h : Run behaviour v ms rs w) : Type 0 where
   -- whenever both ends are quiet, every row of either book has its mirror in the other
   pub mirrors : Quiet w → (s : Side) → Mirrored s w
   -- and what was rekeyed, and the loser of a collision, is in neither book; every successor is in both, unless it was given up
-  pub succession : Quiet w → (s : Side) → Succession s (λ F. ever meaning F v ms rs w h) (GaveUp ms rs) w
+  pub succession : Quiet w → (s : Side) → Succession s (λ F. ever behaviour F v ms rs w h) (GaveUp ms rs) w
   -- without a resend, over a channel that holds two messages for each end, both are quiet eight rounds after the last accepted ask
-  pub rest : HoldsTwo (meaning v.channel) → WithoutResend ms → 8 ≤ rounds_since ms rs → Quiet w
+  pub rest : HoldsTwo (behaviour.meaning v.channel) → WithoutResend ms → 8 ≤ rounds_since ms rs → Quiet w
 
 -- the first calls of a run
-pub record Front {C : Type 0} (meaning : C → Meaning) (v : World C) (ms : List (Move (List ℕ))) (rs : List Answer) : Type 0 where
+pub record Front {C : Type 0} (behaviour : Behaviour C) (v : World C) (ms : List (Move (List ℕ))) (rs : List Answer) : Type 0 where
   pub world : World C
-  pub run : Run meaning v ms rs world
+  pub run : Run behaviour v ms rs world
 
-abbrev pub front : {C : Type 0} (meaning : C → Meaning) (n : ℕ) (v : World C) (ms : List (Move (List ℕ))) (rs : List Answer) (w : World C) → Run meaning v ms rs w → Front meaning v (take n ms) (take n rs)
-front meaning zero v ms rs w h = record { world = v; run = refl }
-front meaning (suc n) v [] [] w h = record { world = w; run = h }
-front meaning (suc n) v [] (r ∷ rs) w h = elim h [ ]
-front meaning (suc n) v (m ∷ ms) [] w h = elim h [ ]
-front meaning (suc n) v (m ∷ ms) (r ∷ rs) w h =
-    let f = front meaning n h.0 ms rs w h.2 in record { world = f.world; run = (h.0, h.1, f.run) }
+abbrev pub front : {C : Type 0} (behaviour : Behaviour C) (n : ℕ) (v : World C) (ms : List (Move (List ℕ))) (rs : List Answer) (w : World C) → Run behaviour v ms rs w → Front behaviour v (take n ms) (take n rs)
+front behaviour zero v ms rs w h = record { world = v; run = refl }
+front behaviour (suc n) v [] [] w h = record { world = w; run = h }
+front behaviour (suc n) v [] (r ∷ rs) w h = elim h [ ]
+front behaviour (suc n) v (m ∷ ms) [] w h = elim h [ ]
+front behaviour (suc n) v (m ∷ ms) (r ∷ rs) w h =
+    let f = front behaviour n h.0 ms rs w h.2 in record { world = f.world; run = (h.0, h.1, f.run) }
 
 -- What happened is a run and, where it began with two ends as they are made over a channel from which nothing may come, the law holds at each of its moments.
-pub record Lawful {C : Type 0} (meaning : C → Meaning) (v : World C) (ms : List (Move (List ℕ))) (rs : List Answer) (w : World C) : Type 0 where
-  pub run : Run meaning v ms rs w
+pub record Lawful {C : Type 0} (behaviour : Behaviour C) (v : World C) (ms : List (Move (List ℕ))) (rs : List Answer) (w : World C) : Type 0 where
+  pub run : Run behaviour v ms rs w
   pub law :
-      Start meaning v → (n : ℕ) →
-      Law meaning v (take n ms) (take n rs) (front meaning n v ms rs w run).world (front meaning n v ms rs w run).run
+      Start behaviour v → (n : ℕ) →
+      Law behaviour v (take n ms) (take n rs) (front behaviour n v ms rs w run).world (front behaviour n v ms rs w run).run
 
--- over a channel of this meaning, whatever happens is lawful
-abbrev pub KeepsLaw : {C : Type 0} → (C → Meaning) → Type 0
-KeepsLaw {C} meaning =
-    (v : World C) (ms : List (Move (List ℕ))) (rs : List Answer) (w : World C) → Run meaning v ms rs w → Lawful meaning v ms rs w
+-- over a channel of this behaviour, whatever happens is lawful
+abbrev pub KeepsLaw : {C : Type 0} → Behaviour C → Type 0
+KeepsLaw {C} behaviour =
+    (v : World C) (ms : List (Move (List ℕ))) (rs : List Answer) (w : World C) → Run behaviour v ms rs w → Lawful behaviour v ms rs w
 
 -- Calls that lead from u to w, after whatever was called before: all of it together is lawful.
-abbrev pub GoesOn : {C : Type 0} → (C → Meaning) → World C → List (Move (List ℕ)) → List Answer → World C → Type 0
-GoesOn {C} meaning u ms rs w =
-    (v : World C) (before : List (Move (List ℕ))) (said : List Answer) → Run meaning v before said u →
-    Lawful meaning v (before ++ ms) (said ++ rs) w
+abbrev pub GoesOn : {C : Type 0} → Behaviour C → World C → List (Move (List ℕ)) → List Answer → World C → Type 0
+GoesOn {C} behaviour u ms rs w =
+    (v : World C) (before : List (Move (List ℕ))) (said : List Answer) → Run behaviour v before said u →
+    Lawful behaviour v (before ++ ms) (said ++ rs) w

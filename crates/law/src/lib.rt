@@ -11,5 +11,5 @@ pub mod lines;
 /// The law of the definitions: over this channel, every run of two ends from their making keeps the law at every moment. It
 /// says nothing of code; that speaks of it by being held to the same definitions.
 pub fn definitions_keep_the_law<C: Channel>(_over: &C)
-    ensures { KeepsLaw C.Channel.meaning }
+    ensures { KeepsLaw C.Channel.behaviour }
 {}

@@ -9,6 +9,6 @@ use channel::channel::Channel;
 
 /// Over this channel every run of calls keeps the law at every moment, and messages can be sent over it as octets.
 pub fn runs_keep_the_law<C: Channel>(_over: &C)
-    ensures law { KeepsLaw C.Channel.meaning }
+    ensures law { KeepsLaw C.Channel.behaviour.meaning }
     ensures codes { (i r : ℕ) → i < 2 ^ 64 → r < 2 ^ 64 → Coded i r }
 {}

@@ -27,7 +27,7 @@ impl<P: Book, Q: Book, C: Channel> Pair<P, Q, C> {
     pub fn new(making: Making, a: P, b: Q, channel: C) -> Result<Pair<P, Q, C>, Unmade<P, Q, C>>
         ensures value { result_map_both world (λ u. u.refusal) result ≡ made_world making (P.Book.shelf a) (Q.Book.shelf b) channel }
         ensures back { IfErr result (λ u. (u.a ≡ a) × (u.b ≡ b) × (u.channel ≡ channel)) }
-        ensures start { IfOk result (λ p. Clean C.Channel.meaning channel → Start C.Channel.meaning (world p)) }
+        ensures start { IfOk result (λ p. Clean C.Channel.behaviour channel → Start C.Channel.behaviour (world p)) }
     {
         if b.len() != 0 {
             return Err(Unmade {

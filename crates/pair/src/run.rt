@@ -16,7 +16,7 @@ use std::alloc::{AllocError, Global};
 
 /// A call of one end.
 fn call_of<B: Book, C: Channel>(end: &mut Endpoint<B>, channel: &mut C, call: Call<&[u8]>) -> Answer
-    ensures { Called C.Channel.meaning end.old channel.old (plain_call call.entry) result end.new channel.new }
+    ensures { Called C.Channel.behaviour end.old channel.old (plain_call call.entry) result end.new channel.new }
 {
     match call {
         Call::Create { nonce } => Answer::Asked(end.create(channel, nonce)),
@@ -31,7 +31,7 @@ fn call_of<B: Book, C: Channel>(end: &mut Endpoint<B>, channel: &mut C, call: Ca
 impl<P: Book, Q: Book, C: Channel> Pair<P, Q, C> {
     /// What a call of one of the two ends does.
     fn step(&mut self, next: Move<&[u8]>) -> Answer
-        ensures { Step C.Channel.meaning (world self.old) (plain_move next.entry) result (world self.new) }
+        ensures { Step C.Channel.behaviour (world self.old) (plain_move next.entry) result (world self.new) }
     {
         match next.side {
             Side::A => call_of(&mut self.a, &mut self.channel, next.call),
@@ -41,8 +41,8 @@ impl<P: Book, Q: Book, C: Channel> Pair<P, Q, C> {
 
     /// A call of one of the two ends. Whatever was called before, all of it together keeps the law, as it does with `run`.
     pub fn call(&mut self, next: Move<&[u8]>) -> Answer
-        ensures step { Step C.Channel.meaning (world self.old) (plain_move next.entry) result (world self.new) }
-        ensures goes_on { GoesOn C.Channel.meaning (world self.old) (plain_move next.entry ∷ []) (result ∷ []) (world self.new) }
+        ensures step { Step C.Channel.behaviour (world self.old) (plain_move next.entry) result (world self.new) }
+        ensures goes_on { GoesOn C.Channel.behaviour (world self.old) (plain_move next.entry ∷ []) (result ∷ []) (world self.new) }
     {
         self.step(next)
     }
@@ -54,8 +54,8 @@ impl<P: Book, Q: Book, C: Channel> Pair<P, Q, C> {
     /// ends, over a channel from which nothing may come, mirrors, succession and rest hold. `law` says so of these calls where they
     /// are the first, `goes_on` of them together with those before.
     pub fn run(&mut self, heap: Global, moves: &[Move<&[u8]>]) -> Result<Vec<Answer>, AllocError>
-        ensures law { IfOk result (λ answers. Lawful C.Channel.meaning (world self.old) (plain_moves moves.now) answers.items (world self.new)) }
-        ensures goes_on { IfOk result (λ answers. GoesOn C.Channel.meaning (world self.old) (plain_moves moves.now) answers.items (world self.new)) }
+        ensures law { IfOk result (λ answers. Lawful C.Channel.behaviour (world self.old) (plain_moves moves.now) answers.items (world self.new)) }
+        ensures goes_on { IfOk result (λ answers. GoesOn C.Channel.behaviour (world self.old) (plain_moves moves.now) answers.items (world self.new)) }
         ensures nothing { IfErr result (λ _. self.new ≡ self.old) }
         ensures memory { moves.now ≡ [] → IsOk result }
     {

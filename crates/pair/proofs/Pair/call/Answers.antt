@@ -6,4 +6,4 @@ use Rattle.pair.proofs.Pair.call.Goals as goal
 pub returns-clause-goes_on : goal.returns-clause-goes_on
 returns-clause-goes_on g c =
     let w = world c.step.new.self in
-    goes_on g.C.Channel.meaning g.met.C.Channel.sound (world c.args.self.now) _ _ w (w, c.step.ensures, refl)
+    goes_on g.C.Channel.behaviour g.met.C.Channel.sound (world c.args.self.now) _ _ w (w, c.step.ensures, refl)

@@ -7,4 +7,4 @@ use Rattle.pair.proofs.Pair.run.Given as goal
 abbrev pub invariant-loop-next : goal.invariant-loop-next
 invariant-loop-next g l =
     (vec_len l.answers ≡ l.next-index) × (length l.moves ≤ vec_capacity l.answers)
-    × Run g.C.Channel.meaning (world l.fn.self) (plain_moves (take l.next-index l.moves)) l.answers.items (world l.self)
+    × Run g.C.Channel.behaviour (world l.fn.self) (plain_moves (take l.next-index l.moves)) l.answers.items (world l.self)
