@@ -1,5 +1,5 @@
 -- What a channel that keeps the newest means, and that it keeps the rules of a channel.
-use Rattle.std.specs.Prelude.{◌≡◌, ℕ, ◌≤◌, cond, List, [], length, Some, None, Option, nat_le, refl}
+use Rattle.std.specs.Prelude.{◌≡◌, ℕ, ◌≤◌, cond, ◌&&◌, List, [], length, Some, None, Option, nat_le, refl}
 use Rattle.std.specs.Option.{ForSome, option_map}
 use Rattle.std.proofs.Common.{subst, arith}
 use Rattle.arrayvec.specs.ArrayVec.{ArrayVec}
@@ -7,7 +7,10 @@ use Rattle.nonce.specs.declared.side.Side.{Side}
 use Rattle.nonce.specs.declared.side.Side.TheVariants.{A, B}
 use Rattle.nonce.specs.declared.both.Both.{Both}
 use Rattle.nonce.specs.Both.{at, with_at}
+use Rattle.channel.specs.Behaviour.{Behaviour}
 use Rattle.channel.specs.Meaning.{Meaning, Sound}
+use Rattle.channel.specs.declared.sent.Sent.{Sent}
+use Rattle.channel.specs.declared.sent.Sent.TheVariants.{Taken, NotTaken}
 use Rattle.strangers.specs.Sizes.{IsSized}
 use Rattle.strangers.specs.declared.newest.Newest.{Newest}
 
@@ -42,6 +45,26 @@ keeping longest kept = record {
 
 abbrev pub means : Newest → Meaning
 means c = keeping c.longest c.kept
+
+-- a send: what has the length of a datagram is kept, and what was kept for that end is gone
+abbrev pub with_newest : State → Side → List ℕ → State
+with_newest s A d = record { longest = s.longest; a = Some d; b = s.b }
+with_newest s B d = record { longest = s.longest; a = s.a; b = Some d }
+
+abbrev pub newest_sent : State → Side → List ℕ → Sent × State
+newest_sent s to d = cond (nat_le 1 (length d) && nat_le (length d) s.longest) (Taken, with_newest s to d) (NotTaken, s)
+
+-- a receive gives what is kept, and keeps it
+abbrev pub newest_given : State → Side → Option (List ℕ) × State
+newest_given s A = (s.a, s)
+newest_given s B = (s.b, s)
+
+abbrev pub behaves : Behaviour Newest
+behaves = record {
+  meaning = means;
+  sends = λ c to d t c'. (t, state_of c') ≡ newest_sent (state_of c) to d;
+  gives = λ c side came c'. (came, state_of c') ≡ newest_given (state_of c) side;
+}
 
 -- what is kept has the length of a datagram
 kept_sized : (longest : ℕ) (o : Option (ArrayVec ℕ)) (d : List ℕ) → ForSome o (λ x. IsSized longest x.items) → option_map (λ x. x.items) o ≡ Some d → IsSized longest d

@@ -6,7 +6,7 @@ ghost use Rattle.calls.specs.Plain.{plain_moves};
 ghost use Rattle.law.specs.Laws.{Lawful, GoesOn};
 ghost use Rattle.law.specs.Runs.{Start};
 ghost use Rattle.pair.specs.Worlds.{world};
-ghost use Rattle.strangers.specs.Newest.{means};
+ghost use Rattle.strangers.specs.Newest.{behaves};
 
 use any_order::Drawer;
 use calls::answers::Answer;
@@ -27,7 +27,7 @@ type Strangers = Pair<Drawer, Drawer, Newest>;
 
 /// Such ends as they are made, if they are: a run from here keeps the law at every moment.
 fn made(making: Making, a: Drawer, b: Drawer, longest: usize) -> Option<Strangers>
-    ensures { IfSome result (λ pair. Start means (world pair)) }
+    ensures { IfSome result (λ pair. Start behaves (world pair)) }
 {
     let channel = Newest::new(longest)?;
     Pair::new(making, a, b, channel).ok()
@@ -39,8 +39,8 @@ fn law_for_strangers(
     heap: Global,
     moves: &[Move<&[u8]>],
 ) -> Result<Vec<Answer>, AllocError>
-    ensures law { IfOk result (λ answers. Lawful means (world pair.old) (plain_moves moves.now) answers.items (world pair.new)) }
-    ensures goes_on { IfOk result (λ answers. GoesOn means (world pair.old) (plain_moves moves.now) answers.items (world pair.new)) }
+    ensures law { IfOk result (λ answers. Lawful behaves (world pair.old) (plain_moves moves.now) answers.items (world pair.new)) }
+    ensures goes_on { IfOk result (λ answers. GoesOn behaves (world pair.old) (plain_moves moves.now) answers.items (world pair.new)) }
     ensures nothing { IfErr result (λ _. pair.new ≡ pair.old) }
 {
     pair.run(heap, moves)

@@ -2,7 +2,7 @@
 ghost use Rattle.std.specs.Prelude.{◌≡◌, ◌≤◌, length, IfSome};
 ghost use Rattle.std.specs.Option.{option_map, option_copied};
 ghost use Rattle.law.specs.Runs.{Clean};
-ghost use Rattle.strangers.specs.Newest.{state_of, made, newest_at, means, newest_sound};
+ghost use Rattle.strangers.specs.Newest.{state_of, made, newest_at, behaves, newest_sound};
 
 use crate::newest::Newest;
 use arrayvec::ArrayVec;
@@ -25,7 +25,7 @@ impl Newest {
     /// A channel to which nothing was sent, for datagrams of at most `longest` octets; none, where that is above 256.
     pub fn new(longest: usize) -> Option<Newest>
         ensures value { option_map state_of result ≡ made longest }
-        ensures clean { IfSome result (Clean means) }
+        ensures clean { IfSome result (Clean behaves) }
     {
         if longest > 256 {
             return None;
@@ -47,7 +47,7 @@ impl Newest {
 }
 
 impl Channel for Newest {
-    ghost meaning = { means };
+    ghost behaviour = { behaves };
 
     ghost sound = { newest_sound };
 
