@@ -1,7 +1,7 @@
 //! A bottom of any kind.
 ghost use Rattle.std.specs.Prelude.{◌≡◌, length};
 ghost use Rattle.bottoms.specs.Holding.{holding_sound};
-ghost use Rattle.childsa.specs.Piles.{bottom_means};
+ghost use Rattle.childsa.specs.Piles.{bottom_means, bottom_behaves};
 ghost use Rattle.childsa.specs.declared.any_bottom.AnyBottom.TheVariants.{Queue as IsQueue, Stack as IsStack, Trace as IsTrace};
 
 use bottoms::queue::Queue;
@@ -34,7 +34,7 @@ impl AnyBottom {
 }
 
 impl Channel for AnyBottom {
-    ghost meaning = { bottom_means };
+    ghost behaviour = { bottom_behaves };
 
     ghost sound = { elim [
       | IsQueue c ↦ holding_sound 32 c.lanes

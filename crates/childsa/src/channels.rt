@@ -124,7 +124,7 @@ fn received_text<C: Channel>(
     at: Side,
     buffer: &mut [u8],
 ) -> Result<String, AllocError>
-    ensures { IfOk result (λ s. ReceivedText (C.Channel.meaning channel.old) at (string_bytes s)) }
+    ensures { IfOk result (λ s. ReceivedText (C.Channel.behaviour.meaning channel.old) at (string_bytes s)) }
 {
     match channel.receive(at, buffer) {
         Some(len) => Hex(&buffer[0..len]).to_string(heap),

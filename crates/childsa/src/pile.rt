@@ -1,6 +1,6 @@
 //! A bottom with the markers over it.
 ghost use Rattle.std.specs.Prelude.{◌≡◌, ◌≤◌, length};
-ghost use Rattle.childsa.specs.Piles.{bottom_means, layer_means, layered, piled, below_of, marks, markers_of, bottom_of};
+ghost use Rattle.childsa.specs.Piles.{bottom_means, layer_behaves, layered, piled, below_of, marks, markers_of, bottom_of};
 ghost use Rattle.channel.specs.Marking.{marked_sound};
 ghost use Rattle.childsa.specs.declared.pile.Layer.TheVariants.{Bare, Marked};
 
@@ -102,7 +102,7 @@ impl<C: Channel> Layer<C> {
 }
 
 impl<C: Channel> Channel for Layer<C> {
-    ghost meaning = { λ s. layer_means C.Channel.meaning s };
+    ghost behaviour = { layer_behaves C.Channel.behaviour };
 
     ghost sound = { elim [
       | Bare c ↦ C.Channel.sound c

@@ -68,7 +68,7 @@ impl<C: Channel> Tap<C> {
 }
 
 impl<C: Channel> Channel for Tap<C> {
-    ghost meaning = { λ s. C.Channel.meaning s };
+    ghost behaviour = { C.Channel.behaviour };
 
     ghost sound = { λ s. C.Channel.sound s };
 
