@@ -5,9 +5,9 @@ use Rattle.nonce.specs.Both.{at, with_at}
 use Rattle.nonce.specs.declared.side.Side.{Side}
 use Rattle.ordered.specs.declared.OrderedBook.{OrderedBook}
 use Rattle.table.specs.declared.TableBook.{TableBook}
-use Rattle.childsa.specs.declared.any_book.AnyBook.{AnyBook}
+use Rattle.chosen.specs.declared.any_book.AnyBook.{AnyBook}
 use Rattle.childsa.specs.declared.desk.Desk.{Desk}
-use Rattle.childsa.specs.Piles.{bottom_of, piled}
+use Rattle.chosen.specs.Piles.{bottom_of, piled}
 
 -- nothing is there
 abbrev pub empty_desk : Desk

@@ -1,7 +1,6 @@
 pub mod Hex
 pub mod Read
-pub mod Books
-pub mod Piles
+pub mod Bottoms
 pub mod Desks
 pub mod Told
 pub mod Ladders

@@ -4,7 +4,7 @@ ghost use Rattle.book.specs.Audits.{audited};
 ghost use Rattle.book.specs.Shelves.{put_in, written_in, removed_from, read_in, find as found_in, next as next_in};
 ghost use Rattle.childsa.specs.Told.{told, spi_text, read_text, rows_text, finding_text};
 
-use crate::any_book::AnyBook;
+use chosen::any_book::AnyBook;
 use crate::commands::Line;
 use crate::desk::Desk;
 use crate::row_text::read_row;

@@ -1,13 +1,13 @@
 //! The commands on channels.
 ghost use Rattle.std.specs.Prelude.{◌≤◌, IfOk, string_bytes};
-ghost use Rattle.childsa.specs.Piles.{BottomMade};
+ghost use Rattle.childsa.specs.Bottoms.{BottomMade};
 ghost use Rattle.childsa.specs.Told.{ReceivedText};
 
-use crate::any_bottom::AnyBottom;
+use chosen::any_bottom::AnyBottom;
 use crate::commands::Line;
 use crate::desk::Desk;
 use crate::digits::Hex;
-use crate::pile::{self, Pile};
+use chosen::pile::{self, Pile};
 use crate::told::{Refused, Told};
 use crate::words::Words;
 use crate::wrong::{Stop, Wrong};

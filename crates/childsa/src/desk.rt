@@ -1,12 +1,12 @@
 //! What a script works on.
 ghost use Rattle.std.specs.Prelude.{◌≡◌};
 ghost use Rattle.std.specs.Option.{option_map};
-ghost use Rattle.childsa.specs.Piles.{pile_means};
+ghost use Rattle.chosen.specs.Piles.{pile_means};
 ghost use Rattle.childsa.specs.Desks.{empty_desk, book_at, with_book, with_markers};
 
-use crate::any_book::AnyBook;
+use chosen::any_book::AnyBook;
 use crate::ends::Ends;
-use crate::pile::Pile;
+use chosen::pile::Pile;
 use channel::channel::Channel;
 use nonce::both::Both;
 use nonce::side::Side;

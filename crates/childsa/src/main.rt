@@ -3,8 +3,6 @@
 //! The script is the file that the one argument names or, without one, the standard input.
 #![tactic(auto)]
 
-mod any_book;
-mod any_bottom;
 mod books;
 mod channels;
 mod commands;
@@ -16,7 +14,6 @@ mod help;
 mod ladder;
 mod messages;
 mod moves;
-mod pile;
 mod report;
 mod row_text;
 mod tap;

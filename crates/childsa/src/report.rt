@@ -2,7 +2,7 @@
 ghost use Rattle.std.specs.Prelude.{Some};
 ghost use Rattle.childsa.specs.Told.{left_text, doing_text, end_text};
 
-use crate::any_book::AnyBook;
+use chosen::any_book::AnyBook;
 use crate::books::{audit_text, rows_text};
 use crate::commands::Line;
 use crate::ends::Ends;

@@ -3,7 +3,7 @@ use Rattle.calls.specs.declared.answers.Answer.{Answer}
 use Rattle.calls.specs.Plain.{plain_move}
 use Rattle.law.specs.Laws.{Lawful, GoesOn}
 use Rattle.pair.specs.Worlds.{world}
-use Rattle.childsa.specs.Piles.{pile_means}
+use Rattle.chosen.specs.Piles.{pile_means}
 use Rattle.childsa.proofs.Calling.{answered_once, alone}
 use Rattle.childsa.proofs.ends.Ends.call.Goals as goal
 

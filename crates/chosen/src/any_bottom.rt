@@ -1,8 +1,8 @@
 //! A bottom of any kind.
 ghost use Rattle.std.specs.Prelude.{◌≡◌, length};
 ghost use Rattle.bottoms.specs.Holding.{holding_sound};
-ghost use Rattle.childsa.specs.Piles.{bottom_means, bottom_behaves};
-ghost use Rattle.childsa.specs.declared.any_bottom.AnyBottom.TheVariants.{Queue as IsQueue, Stack as IsStack, Trace as IsTrace};
+ghost use Rattle.chosen.specs.Piles.{bottom_means, bottom_behaves};
+ghost use Rattle.chosen.specs.declared.any_bottom.AnyBottom.TheVariants.{Queue as IsQueue, Stack as IsStack, Trace as IsTrace};
 
 use bottoms::queue::Queue;
 use bottoms::stack::Stack;
@@ -11,10 +11,10 @@ use channel::channel::Channel;
 use channel::sent::Sent;
 use nonce::side::Side;
 
-/// A channel with no layer, whose kind the script chooses. An enum, and each method a match, as `AnyBook`: no function may
+/// A channel with no layer, whose kind is chosen at run time. An enum, and each method a match, as `AnyBook`: no function may
 /// make a `dyn Channel` and hand it out.
 #[derive(Drop)]
-pub(crate) enum AnyBottom {
+pub enum AnyBottom {
     Queue(Queue),
     Stack(Stack),
     Trace(Trace),
@@ -22,7 +22,7 @@ pub(crate) enum AnyBottom {
 
 impl AnyBottom {
     /// How many datagrams wait at an end.
-    pub(crate) fn waiting(&self, at: Side) -> usize
+    pub fn waiting(&self, at: Side) -> usize
         ensures { result ≡ length ((bottom_means self.now).waiting at) }
     {
         match self {

@@ -1,8 +1,8 @@
 //! A bottom with the markers over it.
 ghost use Rattle.std.specs.Prelude.{◌≡◌, ◌≤◌, length};
-ghost use Rattle.childsa.specs.Piles.{bottom_means, layer_behaves, layered, piled, below_of, marks, markers_of, bottom_of};
+ghost use Rattle.chosen.specs.Piles.{bottom_means, layer_behaves, layered, piled, below_of, marks, markers_of, bottom_of};
 ghost use Rattle.channel.specs.Marking.{marked_sound};
-ghost use Rattle.childsa.specs.declared.pile.Layer.TheVariants.{Bare, Marked};
+ghost use Rattle.chosen.specs.declared.pile.Layer.TheVariants.{Bare, Marked};
 
 use crate::any_bottom::AnyBottom;
 use channel::channel::Channel;
@@ -10,19 +10,19 @@ use channel::marker::Marker;
 use channel::sent::Sent;
 use nonce::side::Side;
 
-/// A channel with or without a marker over it, as the script chooses. Each method is a match, since no function may make a
+/// A channel with or without a marker over it, as is chosen at run time. Each method is a match, since no function may make a
 /// `dyn Channel` and hand it out.
 #[derive(Drop)]
-pub(crate) enum Layer<C> {
+pub enum Layer<C> {
     Bare(C),
     Marked(Marker<C>),
 }
 
 /// A bottom with up to three markers over it. A box for each would be memory that `over` could want.
-pub(crate) type Pile = Layer<Layer<Layer<AnyBottom>>>;
+pub type Pile = Layer<Layer<Layer<AnyBottom>>>;
 
 /// A bottom with this many markers over it, at most three.
-pub(crate) fn over(bottom: AnyBottom, markers: usize) -> Pile
+pub fn over(bottom: AnyBottom, markers: usize) -> Pile
     ensures pile { result ≡ piled bottom markers }
     ensures bottom { bottom_of result ≡ bottom }
     ensures markers { markers ≤ 3 → markers_of result ≡ markers }
@@ -34,7 +34,7 @@ pub(crate) fn over(bottom: AnyBottom, markers: usize) -> Pile
 
 impl Pile {
     /// How many markers stand over the bottom.
-    pub(crate) fn markers(&self) -> usize
+    pub fn markers(&self) -> usize
         ensures { result ≡ markers_of self.now }
     {
         let middle = self.below();
@@ -43,14 +43,14 @@ impl Pile {
     }
 
     /// How many datagrams wait at an end, marked or not.
-    pub(crate) fn waiting(&self, at: Side) -> usize
+    pub fn waiting(&self, at: Side) -> usize
         ensures { result ≡ length ((bottom_means (bottom_of self.now)).waiting at) }
     {
         self.below().below().below().waiting(at)
     }
 
     /// The same bottom with this many markers over it, at most three. What waits there stays.
-    pub(crate) fn with_markers(self, markers: usize) -> Pile
+    pub fn with_markers(self, markers: usize) -> Pile
         ensures { result ≡ piled (bottom_of self) markers }
     {
         let bottom = self.into_below().into_below().into_below();

@@ -1,4 +1,4 @@
-use Rattle.childsa.proofs.any_bottom.AnyBottomChannel.send.Goals as goal
+use Rattle.chosen.proofs.any_bottom.AnyBottomChannel.send.Goals as goal
 
 pub returns-in-Queue-clause-effect : goal.returns-in-Queue-clause-effect
 returns-in-Queue-clause-effect c = rw c.in-Queue.is c.send.ensures.effect

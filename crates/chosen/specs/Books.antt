@@ -1,8 +1,8 @@
 -- Books of either kind.
 use Rattle.std.specs.Prelude.{ℕ, List, box_value, codes}
 use Rattle.book.specs.Shelves.{Shelf}
-use Rattle.childsa.specs.declared.any_book.AnyBook.{AnyBook}
-use Rattle.childsa.specs.declared.any_book.AnyBook.TheVariants.{Ordered, Table}
+use Rattle.chosen.specs.declared.any_book.AnyBook.{AnyBook}
+use Rattle.chosen.specs.declared.any_book.AnyBook.TheVariants.{Ordered, Table}
 
 -- what a book means, by its kind
 abbrev pub any_shelf : {O T : Type 0} → (O → Shelf) → (T → Shelf) → AnyBook O T → Shelf

@@ -1,24 +1,24 @@
 //! A book of either kind.
 ghost use Rattle.std.specs.Prelude.{◌≡◌};
-ghost use Rattle.childsa.specs.Books.{any_shelf, kind_text};
-ghost use Rattle.childsa.specs.declared.any_book.AnyBook.TheVariants.{Ordered, Table};
+ghost use Rattle.chosen.specs.Books.{any_shelf, kind_text};
+ghost use Rattle.chosen.specs.declared.any_book.AnyBook.TheVariants.{Ordered, Table};
 
 use book::row::Row;
 use book::{Book, BookRefusal};
 use ordered::OrderedBook;
 use table::TableBook;
 
-/// A book whose kind the script chooses. Each method is a match, since no function may make a `dyn Book` and hand it out.
+/// A book whose kind is chosen at run time. Each method is a match, since no function may make a `dyn Book` and hand it out.
 /// Generic in the two books, so that the proof goes by the laws of `Book` and never opens a book.
 #[derive(Drop)]
-pub(crate) enum AnyBook<O = OrderedBook, T = TableBook> {
+pub enum AnyBook<O = OrderedBook, T = TableBook> {
     Ordered(Box<O>),
     Table(Box<T>),
 }
 
 impl<O, T> AnyBook<O, T> {
     /// The name of the kind.
-    pub(crate) fn kind(&self) -> &'static str
+    pub fn kind(&self) -> &'static str
         ensures { result.now ≡ kind_text self.now }
     {
         match self {

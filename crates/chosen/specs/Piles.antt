@@ -1,5 +1,5 @@
 -- Channels: a bottom, and the markers over it.
-use Rattle.std.specs.Prelude.{◌≡◌, ℕ, ◌+◌, Bool, true, false, List, Ok, Err, Option, Result, nat_lt}
+use Rattle.std.specs.Prelude.{ℕ, ◌+◌, Bool, true, false, List, Option, nat_lt}
 use Rattle.nonce.specs.declared.side.Side.{Side}
 use Rattle.channel.specs.Behaviour.{Behaviour}
 use Rattle.channel.specs.Markers.{marker_over}
@@ -8,15 +8,13 @@ use Rattle.channel.specs.Meaning.{Meaning}
 use Rattle.channel.specs.declared.marker.Marker.{Marker}
 use Rattle.channel.specs.declared.sent.Sent.{Sent}
 use Rattle.bottoms.specs.Bottoms.{queue_means, stack_means, queue_behaves, stack_behaves}
-use Rattle.bottoms.specs.Traces.{trace_means, trace_behaves, TraceRefused}
+use Rattle.bottoms.specs.Traces.{trace_means, trace_behaves}
 use Rattle.bottoms.specs.Bottoms as bottoms
 use Rattle.bottoms.specs.Traces as traces
-use Rattle.bottoms.specs.declared.refusal.MakeRefusal.{MakeRefusal}
-use Rattle.childsa.specs.declared.any_bottom.AnyBottom.{AnyBottom}
-use Rattle.childsa.specs.declared.any_bottom.AnyBottom.TheVariants.{Queue, Stack, Trace}
-use Rattle.childsa.specs.declared.channels.Wanted.{Wanted}
-use Rattle.childsa.specs.declared.pile.Layer.{Layer}
-use Rattle.childsa.specs.declared.pile.Layer.TheVariants.{Bare, Marked}
+use Rattle.chosen.specs.declared.any_bottom.AnyBottom.{AnyBottom}
+use Rattle.chosen.specs.declared.any_bottom.AnyBottom.TheVariants.{Queue, Stack, Trace}
+use Rattle.chosen.specs.declared.pile.Layer.{Layer}
+use Rattle.chosen.specs.declared.pile.Layer.TheVariants.{Bare, Marked}
 
 -- a bottom is of a kind, and something holds of it
 abbrev pub IsQueue : AnyBottom → (bottoms.Queue → Type 0) → Type 0
@@ -108,26 +106,3 @@ bottom_of p = below_of (below_of (below_of p))
 
 abbrev pub markers_of : Layer (Layer (Layer AnyBottom)) → ℕ
 markers_of p = marks p + marks (below_of p) + marks (below_of (below_of p))
-
--- the longest datagram that is asked for
-abbrev pub longest_wanted : Wanted → ℕ
-longest_wanted (Wanted.Queue n) = n
-longest_wanted (Wanted.Stack n) = n
-longest_wanted (Wanted.Trace n f) = n
-
--- whether a bottom is of the kind that is asked for
-abbrev pub is_wanted : Wanted → AnyBottom → Bool
-is_wanted (Wanted.Queue n) (Queue c) = true
-is_wanted (Wanted.Queue n) (Stack c) = false
-is_wanted (Wanted.Queue n) (Trace c) = false
-is_wanted (Wanted.Stack n) (Queue c) = false
-is_wanted (Wanted.Stack n) (Stack c) = true
-is_wanted (Wanted.Stack n) (Trace c) = false
-is_wanted (Wanted.Trace n f) (Queue c) = false
-is_wanted (Wanted.Trace n f) (Stack c) = false
-is_wanted (Wanted.Trace n f) (Trace c) = true
-
--- a bottom that was made is of the kind and the longest that were asked for; one that was not made is refused by its longest
-abbrev pub BottomMade : Wanted → Result AnyBottom MakeRefusal → Type 0
-BottomMade w (Ok c) = (is_wanted w c ≡ true) × ((bottom_means c).longest ≡ longest_wanted w)
-BottomMade w (Err e) = TraceRefused (longest_wanted w) e
