@@ -1,5 +1,5 @@
 -- What a trace means, and what it does.
-use Rattle.std.specs.Prelude.{◌≡◌, ℕ, true, false, cond, List, drop, Ok, Err, Option, Result}
+use Rattle.std.specs.Prelude.{ℕ, cond, List, drop, Ok, Err, Option, Result}
 use Rattle.nonce.specs.declared.side.Side.{Side}
 use Rattle.channel.specs.Behaviour.{Behaviour}
 use Rattle.channel.specs.Meaning.{Meaning}
@@ -10,7 +10,7 @@ use Rattle.bottoms.specs.Bottoms.{means, behaves}
 use Rattle.bottoms.specs.Fates.{next_fate, fated}
 use Rattle.bottoms.specs.declared.bottom.Bottom.{Bottom}
 use Rattle.bottoms.specs.declared.refusal.MakeRefusal.{MakeRefusal}
-use Rattle.bottoms.specs.declared.refusal.MakeRefusal.TheVariants.{NoMemory, Longest}
+use Rattle.bottoms.specs.declared.refusal.MakeRefusal.TheVariants.{Longest}
 use Rattle.bottoms.specs.declared.trace.Fates.{Fates}
 
 -- what is there, and the letters of the fates that are left
@@ -44,11 +44,7 @@ with_fates fates r = (r.0, r.1, record { store = r.2; fates = fates })
 abbrev pub trace_received : Traced → Side → List ℕ → Option ℕ × List ℕ × Traced
 trace_received t side was = with_fates t.fates (received t.store side was)
 
--- a trace is made with all letters; the longest is tested before there may be no memory
-abbrev pub TraceRefused : ℕ → MakeRefusal → Type 0
-TraceRefused longest Longest = in_range longest ≡ false
-TraceRefused longest NoMemory = in_range longest ≡ true
-
-abbrev pub TraceMade : ℕ → List ℕ → Result Traced MakeRefusal → Type 0
-TraceMade longest letters (Ok t) = (in_range longest ≡ true) × (t ≡ record { store = empty longest; fates = letters })
-TraceMade longest letters (Err e) = TraceRefused longest e
+-- a trace is made with all letters
+abbrev pub trace_fresh : ℕ → List ℕ → Result Traced MakeRefusal
+trace_fresh longest letters =
+    cond (in_range longest) (Ok (record { store = empty longest; fates = letters })) (Err Longest)

@@ -69,7 +69,7 @@ fn known(rt: HostRuntime) -> Result<(), Fail> {
     assert_eq!(rt; queue_send(&mut queue, Side::A, b"x"), Sent::Taken);
     let mut stack = Stack::new(32)?;
     assert_eq!(rt; stack_send(&mut stack, Side::A, b""), Sent::NotTaken);
-    let mut trace = Trace::new(rt.alloc(), 32, b"l")?;
+    let mut trace = Trace::new(32, Vec::from_slice(rt.alloc(), b"l")?)?;
     assert_eq!(rt; trace_send(&mut trace, Side::A, b"x"), Sent::Taken);
     assert_eq!(rt; trace_receive(&mut trace, Side::A, &mut [0; 32]), None);
     Ok(())
@@ -91,7 +91,7 @@ fn order(rt: HostRuntime) -> Result<(), Fail> {
 
 #[test]
 fn fates(rt: HostRuntime) -> Result<(), Fail> {
-    let mut trace = Trace::new(rt.alloc(), 64, b"pl2j")?;
+    let mut trace = Trace::new(64, Vec::from_slice(rt.alloc(), b"pl2j")?)?;
     send_all(&mut trace, b"abcde");
     assert_eq!(rt; (trace.waiting(Side::A), trace.waiting(Side::B)), (0, 5));
     assert_eq!(rt; next(&mut trace, Side::B), Some((1, b'd')));
@@ -106,7 +106,7 @@ fn fates(rt: HostRuntime) -> Result<(), Fail> {
 /// A full trace uses no fate, and with one place left twice is once.
 #[test]
 fn full(rt: HostRuntime) -> Result<(), Fail> {
-    let mut trace = Trace::new(rt.alloc(), 64, b"ppppppppppppppppppppppppppppppp2lx")?;
+    let mut trace = Trace::new(64, Vec::from_slice(rt.alloc(), b"ppppppppppppppppppppppppppppppp2lx")?)?;
     send_all(&mut trace, b"abcdefghijklmnopqrstuvwxyz01234");
     assert!(rt; takes(&mut trace, Side::B, b"5"));
     assert!(rt; !takes(&mut trace, Side::B, b"6"));

@@ -3,13 +3,12 @@ ghost use Rattle.std.specs.Prelude.{◌≡◌, drop, refl};
 ghost use Rattle.std.proofs.Math.Nat.{lt_irrefl, le_of_sub-eq-zero};
 ghost use Rattle.std.specs.Result.{result_map_both};
 ghost use Rattle.bottoms.specs.Fates.{fate_of, next_fate};
-ghost use Rattle.bottoms.specs.Traces.{traced, TraceMade};
+ghost use Rattle.bottoms.specs.Traces.{traced, trace_fresh};
 
 use crate::bottom::Bottom;
 use crate::lanes::Lanes;
 use crate::refusal::MakeRefusal;
 use crate::rule::{Fate, Rule};
-use std::alloc::Global;
 use std::marker::Model;
 use std::vec::IntoIter;
 
@@ -65,12 +64,12 @@ pub type Trace = Bottom<Fates>;
 impl Trace {
     /// A trace in which nothing waits, for datagrams of at most `longest` octets, with a letter for the fate of each send:
     /// p adds it last; l takes and loses it; 2 adds it twice or, short of space, once; j adds it in front. Any other letter,
-    /// and each send after the last, means p. The letters are copied, however many they are.
-    pub fn new(heap: Global, longest: usize, fates: &[u8]) -> Result<Trace, MakeRefusal>
-        ensures { TraceMade longest fates.now (result_map_both traced (λ e. e) result) }
+    /// and each send after the last, means p. The letters may be as many as one likes.
+    pub fn new(longest: usize, fates: Vec<u8>) -> Result<Trace, MakeRefusal>
+        ensures { result_map_both traced (λ e. e) result ≡ trace_fresh longest fates.items }
     {
         let lanes = Lanes::new(longest)?;
-        let letters = Vec::from_slice(heap, fates)?.into_iter();
+        let letters = fates.into_iter();
         Ok(Bottom {
             lanes,
             rule: Fates { letters },

@@ -1,6 +1,6 @@
 -- The bottom that a script asks for, and what is made of it.
 use Rattle.std.specs.Prelude.{◌≡◌, ℕ, Bool, true, false, Ok, Err, Result}
-use Rattle.bottoms.specs.Traces.{TraceRefused}
+use Rattle.bottoms.specs.Stores.{in_range}
 use Rattle.bottoms.specs.declared.refusal.MakeRefusal.{MakeRefusal}
 use Rattle.chosen.specs.Piles.{bottom_means}
 use Rattle.chosen.specs.declared.any_bottom.AnyBottom.{AnyBottom}
@@ -28,4 +28,4 @@ is_wanted (Wanted.Trace n f) (Trace c) = true
 -- a bottom that was made is of the kind and the longest that were asked for; one that was not made is refused by its longest
 abbrev pub BottomMade : Wanted → Result AnyBottom MakeRefusal → Type 0
 BottomMade w (Ok c) = (is_wanted w c ≡ true) × ((bottom_means c).longest ≡ longest_wanted w)
-BottomMade w (Err e) = TraceRefused (longest_wanted w) e
+BottomMade w (Err e) = in_range (longest_wanted w) ≡ false

@@ -59,14 +59,13 @@ pub(crate) fn make(line: &mut Line<'_>) -> Result<String, Stop> {
     let heap = line.words.heap;
     let wanted = read_wanted(&mut line.words)?;
     let markers = read_markers(&mut line.words)?;
-    match new_bottom(heap, wanted) {
+    match new_bottom(heap, wanted)? {
         Ok(bottom) => {
             let pile = pile::over(bottom, markers.0);
             let most = pile.longest();
             line.desk.channel = Some(pile);
             Ok(format!(in heap; "channel {wanted}{markers} longest {most}")?)
         }
-        Err(MakeRefusal::NoMemory) => Err(AllocError.into()),
         Err(refusal) => Ok(Refused(refusal).to_string(heap)?),
     }
 }
@@ -133,16 +132,20 @@ fn received_text<C: Channel>(
 }
 
 /// A bottom in which nothing waits.
-pub(crate) fn new_bottom(heap: Global, wanted: Wanted<'_>) -> Result<AnyBottom, MakeRefusal>
-    ensures { BottomMade wanted.entry result }
+pub(crate) fn new_bottom(
+    heap: Global,
+    wanted: Wanted<'_>,
+) -> Result<Result<AnyBottom, MakeRefusal>, AllocError>
+    ensures { IfOk result (BottomMade wanted.entry) }
 {
-    match wanted {
+    Ok(match wanted {
         Wanted::Queue { longest } => Queue::new(longest as usize).map(AnyBottom::Queue),
         Wanted::Stack { longest } => Stack::new(longest as usize).map(AnyBottom::Stack),
         Wanted::Trace { longest, fates } => {
-            Trace::new(heap, longest as usize, letters_of(fates)).map(AnyBottom::Trace)
+            let letters = Vec::from_slice(heap, letters_of(fates))?;
+            Trace::new(longest as usize, letters).map(AnyBottom::Trace)
         }
-    }
+    })
 }
 
 /// `queue N`, `stack N` or `trace N FATES`.

@@ -1,7 +1,7 @@
 //! What a script works on.
 ghost use Rattle.std.specs.Prelude.{◌≡◌};
 ghost use Rattle.std.specs.Option.{option_map};
-ghost use Rattle.chosen.specs.Piles.{pile_means};
+ghost use Rattle.chosen.specs.Piles.{pile_behaves};
 ghost use Rattle.childsa.specs.Desks.{empty_desk, book_at, with_book, with_markers};
 
 use chosen::any_book::AnyBook;
@@ -45,7 +45,7 @@ impl Desk {
     /// datagram then.
     pub(crate) fn mark(&mut self, markers: usize) -> Option<usize>
         ensures desk { self.new ≡ with_markers self.old markers }
-        ensures longest { result ≡ option_map (λ p. (pile_means p).longest) self.new.channel }
+        ensures longest { result ≡ option_map (λ p. (pile_behaves.meaning p).longest) self.new.channel }
     {
         let pile = self.channel.take()?.with_markers(markers);
         let longest = pile.longest();

@@ -1,9 +1,10 @@
 //! The two ends of a script, and how they are made.
 ghost use Rattle.std.specs.Prelude.{◌≡◌, [], ◌∷◌, IfOk};
 ghost use Rattle.calls.specs.Plain.{plain_move};
-ghost use Rattle.law.specs.Laws.{Lawful, GoesOn};
+ghost use Rattle.law.specs.Laws.{GoesOn};
+ghost use Rattle.law.specs.Runs.{Step};
 ghost use Rattle.pair.specs.Worlds.{world};
-ghost use Rattle.chosen.specs.Piles.{pile_means};
+ghost use Rattle.chosen.specs.Piles.{pile_behaves};
 ghost use Rattle.channel.specs.Meaning.{other};
 ghost use Rattle.childsa.specs.Ladders.{fate_of};
 
@@ -17,7 +18,6 @@ use chosen::pile::{self, Pile};
 use crate::tap::Tap;
 use crate::words::Words;
 use crate::wrong::Stop;
-use bottoms::refusal::MakeRefusal;
 use calls::answers::Answer;
 use calls::making::{First, Making};
 use calls::moves::Move;
@@ -53,7 +53,7 @@ fn place(line: &mut Line<'_>) -> Result<u16, Stop> {
     let (_, a) = read_kind(&mut line.words)?;
     let (_, b) = read_kind(&mut line.words)?;
     line.words.end()?;
-    match new_bottom(heap, wanted) {
+    match new_bottom(heap, wanted)? {
         Ok(bottom) => match Ends::new(heap, making, a, b, pile::over(bottom, markers.0))? {
             Ok(ends) => {
                 line.desk.ends = Some(ends);
@@ -61,7 +61,6 @@ fn place(line: &mut Line<'_>) -> Result<u16, Stop> {
             }
             Err(refusal) => Ok(refusal.number()),
         },
-        Err(MakeRefusal::NoMemory) => Err(AllocError.into()),
         Err(refusal) => Ok(refusal.number()),
     }
 }
@@ -116,15 +115,14 @@ impl Ends {
         }
     }
 
-    /// Makes a call of an end, and draws what came and what was sent. The answer is the end's, by the law of two ends.
-    pub(crate) fn call(&mut self, heap: Global, step: Move<&[u8]>) -> Result<Answer, AllocError>
-        ensures law { IfOk result (λ answer. Lawful pile_means (world self.old.pair) (plain_move step.entry ∷ []) (answer ∷ []) (world self.new.pair)) }
-        ensures goes_on { IfOk result (λ answer. GoesOn pile_means (world self.old.pair) (plain_move step.entry ∷ []) (answer ∷ []) (world self.new.pair)) }
+    /// Makes a call of an end, and draws what came and what was sent. All calls so far keep the law of two ends.
+    pub(crate) fn call(&mut self, step: Move<&[u8]>) -> Result<Answer, AllocError>
+        ensures step { IfOk result (λ answer. Step pile_behaves (world self.old.pair) (plain_move step.entry) answer (world self.new.pair)) }
+        ensures goes_on { IfOk result (λ answer. GoesOn pile_behaves (world self.old.pair) (plain_move step.entry ∷ []) (answer ∷ []) (world self.new.pair)) }
     {
         let there = across(step.side);
         let before = self.waiting(there);
-        let answers = self.pair.run(heap, &[step])?;
-        let answer = answers[0];
+        let answer = self.pair.call(step);
         let more = self.waiting(there).saturating_sub(before);
         draw(
             &mut self.ladder,

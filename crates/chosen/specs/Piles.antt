@@ -77,9 +77,9 @@ layer_gives below (Marked c) at came l = IsMarked l ((marker_over below).gives c
 abbrev pub layer_behaves : {C : Type 0} → Behaviour C → Behaviour (Layer C)
 layer_behaves below = record { meaning = layer_means below.meaning; sends = layer_sends below; gives = layer_gives below }
 
--- what a pile means: each marker marks what is below it
-abbrev pub pile_means : Layer (Layer (Layer AnyBottom)) → Meaning
-pile_means p = layer_means (layer_means (layer_means bottom_means)) p
+-- what a pile means and does: each marker marks what is below it
+abbrev pub pile_behaves : Behaviour (Layer (Layer (Layer AnyBottom)))
+pile_behaves = layer_behaves (layer_behaves (layer_behaves bottom_behaves))
 
 -- a channel, and a marker over it where it is to be marked
 abbrev pub layered : {C : Type 0} → C → Bool → Layer C

@@ -43,7 +43,7 @@ use Rattle.law.specs.Cells.{is_mine, is_heir, sa_of, cell_by, cell_in, lines}
 use Rattle.law.specs.Ends.{End, Outstanding, made_end}
 use Rattle.law.specs.Runs.{World, at, Called, Run, Fit, Start, ever}
 use Rattle.law.specs.Laws as laws
-use Rattle.law.specs.Laws.{row_of, Quiet, Mirrored, MadeAt, InNeither, InBook, InBoth, Rekeys, loser_of, Loses, Accepted, Names, GaveUp, Succession, Tally, tally, rounds_since, WithoutResend, HoldsTwo, Law, front, Lawful, GoesOn}
+use Rattle.law.specs.Laws.{row_of, Quiet, Mirrored, MadeAt, InNeither, InBook, InBoth, Rekeys, loser_of, Loses, Accepted, Names, GaveUp, Succession, Tally, tally, rounds_since, NothingResent, HoldsTwo, Law, front, Lawful, GoesOn}
 use Rattle.law.proofs.Calling.{call_of, answer_of, refusal_of, idle_of}
 use Rattle.law.proofs.Cells.{lines_lookup}
 use Rattle.law.proofs.Followed.{moves_of, answers_of, row_live, Ties, image, node_at, Followed, follow}
@@ -228,17 +228,26 @@ module _ {C : Type 0} (behaviour : Behaviour C) where
       ap (λ (u : line_rest.Tally). line_rest.tally u (moves_of ms) (answers_of rs)) (tallied_alike _ _ _ _ t m.side m.call a h.1.this)
       ∙ tally_alike h.0 ms rs w (laws.tallied t m.side a) h.2
 
-not_resend : (x : Call (List ℕ)) → laws.is_resend x ≡ false → line_rest.not_resend (call_of x)
-not_resend (calls.Create n) h = tt
-not_resend (calls.Rekey own n) h = tt
-not_resend (calls.Delete own) h = tt
-not_resend calls.Check h = tt
-not_resend calls.Resend h = let z : ◌≡◌ {A = ℕ} 0 1 = cc in omega arith
-not_resend (calls.Deliver n) h = tt
+  -- a call at which nothing was sent again
+  not_resent :
+      (e e' : End) (c c' : C) (x : Call (List ℕ)) (a : Answer) → Called behaviour e c x a e' c' → laws.is_resent a ≡ false →
+      line_rest.not_resent (call_of x) (answer_of a)
+  not_resent e e' c c' (calls.Create n) a k h = tt
+  not_resent e e' c c' (calls.Rekey own n) a k h = tt
+  not_resent e e' c c' (calls.Delete own) a k h = tt
+  not_resent e e' c c' calls.Check a k h = tt
+  not_resent e e' c c' calls.Resend (answer.Asked r) k h = absurd k
+  not_resent e e' c c' calls.Resend (answer.Resent (Ok s)) k h = let z : ◌≡◌ {A = ℕ} 0 1 = cc in absurd (omega arith)
+  not_resent e e' c c' calls.Resend (answer.Resent (Err f)) k h = refl
+  not_resent e e' c c' calls.Resend (answer.Heard r) k h = absurd k
+  not_resent e e' c c' (calls.Deliver n) a k h = tt
 
-no_resend : (ms : List (Move (List ℕ))) → WithoutResend ms → line_rest.no_resend (moves_of ms)
-no_resend [] h = tt
-no_resend (m ∷ ms) h = (not_resend m.call h.0, no_resend ms h.1)
+  none_resent :
+      (v : World C) (ms : List (Move (List ℕ))) (rs : List Answer) (w : World C) → Run behaviour v ms rs w → NothingResent rs →
+      line_rest.none_resent (moves_of ms) (answers_of rs)
+  none_resent v [] rs w h n = tt
+  none_resent v (m ∷ ms) [] w h n = tt
+  none_resent v (m ∷ ms) (a ∷ rs) w h n = (not_resent _ _ _ _ m.call a h.1.this n.0, none_resent h.0 ms rs w h.2 n.1)
 
 -- an end as it is made
 made_tied : (m : Making) (s : Side) (most : ℕ) → Fit m → Tied (made_end m s most) None idle
@@ -361,7 +370,7 @@ module _ {C : Type 0} (behaviour : Behaviour C) (sound : (c : C) → Sound (beha
             (succession behaviour i r fits_i fits_r v ms rs w h x f B (l.made_by_b (quiet q)));
         rest = λ deep calm n.
             let z =
-            l.rest (sound v.channel) (record { deep = deep.deep; long = deep.long }) (no_resend ms calm)
+            l.rest (sound v.channel) (record { deep = deep.deep; long = deep.long }) (none_resent behaviour v ms rs w h calm)
             (subst (λ t. 8 ≤ t) (sym (ap (λ (t : line_rest.Tally). t.rounds) (tally_alike behaviour v ms rs w (record { rounds = 0; half = false }) h))) n)
             in
             record {

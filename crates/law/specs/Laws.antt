@@ -140,17 +140,16 @@ tally t (m ∷ ms) (r ∷ rs) = tally (tallied t m.side r) ms rs
 abbrev pub rounds_since : List (Move (List ℕ)) → List Answer → ℕ
 rounds_since ms rs = (tally (record { rounds = 0; half = false }) ms rs).rounds
 
-abbrev pub is_resend : Call (List ℕ) → Bool
-is_resend (Create n) = false
-is_resend (Rekey own n) = false
-is_resend (Delete own) = false
-is_resend Check = false
-is_resend Resend = true
-is_resend (Deliver n) = false
+-- whether a request was sent again at this call: a resend that was not refused
+abbrev pub is_resent : Answer → Bool
+is_resent (Asked r) = false
+is_resent (Resent (Ok s)) = true
+is_resent (Resent (Err e)) = false
+is_resent (Heard r) = false
 
-abbrev pub WithoutResend : List (Move (List ℕ)) → Type 0
-WithoutResend [] = Unit {0}
-WithoutResend (m ∷ ms) = (is_resend m.call ≡ false) × WithoutResend ms
+abbrev pub NothingResent : List Answer → Type 0
+NothingResent [] = Unit {0}
+NothingResent (r ∷ rs) = (is_resent r ≡ false) × NothingResent rs
 
 -- a channel that keeps two messages for each end
 pub record HoldsTwo (m : Meaning) : Type 0 where
@@ -163,8 +162,8 @@ pub record Law {C : Type 0} (behaviour : Behaviour C) (v : World C) (ms : List (
   pub mirrors : Quiet w → (s : Side) → Mirrored s w
   -- and what was rekeyed, and the loser of a collision, is in neither book; every successor is in both, unless it was given up
   pub succession : Quiet w → (s : Side) → Succession s (λ F. ever behaviour F v ms rs w h) (GaveUp ms rs) w
-  -- without a resend, over a channel that holds two messages for each end, both are quiet eight rounds after the last accepted ask
-  pub rest : HoldsTwo (behaviour.meaning v.channel) → WithoutResend ms → 8 ≤ rounds_since ms rs → Quiet w
+  -- where nothing was sent again, over a channel that holds two messages for each end, both are quiet eight rounds after the last accepted ask
+  pub rest : HoldsTwo (behaviour.meaning v.channel) → NothingResent rs → 8 ≤ rounds_since ms rs → Quiet w
 
 -- the first calls of a run
 pub record Front {C : Type 0} (behaviour : Behaviour C) (v : World C) (ms : List (Move (List ℕ))) (rs : List Answer) : Type 0 where

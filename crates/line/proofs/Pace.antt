@@ -7,7 +7,7 @@ use Rattle.channel.specs.Meaning.{Meaning, Sound}
 use Rattle.line.specs.Calls.{Coding}
 use Rattle.line.specs.World as world
 use Rattle.line.specs.World.{Call, asking, resend, deliver, Answer, did, again, stopped, nothing, unused, World, Move, StepOn, Start}
-use Rattle.line.specs.Rest.{Holding, Short, total, Tally, delivered, tallied, tally, rounds_since, not_resend, no_resend, Deep, Still, Fell, effect, pace}
+use Rattle.line.specs.Rest.{Holding, Short, total, Tally, delivered, tallied, tally, rounds_since, not_resent, none_resent, Deep, Still, Fell, effect, pace}
 use Rattle.line.proofs.Dues.{no_weight, weight_most}
 use Rattle.line.proofs.Dues as D
 use Rattle.line.proofs.Waiting.{nothing_due}
@@ -120,7 +120,7 @@ module _ {C : Type 0} (K : Coding) (wide : ℕ) (short : Short K wide) (meaning 
       let q = no_weight w.b w.a l.alive.between.q_steps x.0 y.1 in
       omega arith
 
-  step_eases : (T : Tally) (v : World C) (s : Side) (x : Call) (r : Answer) (w : World C) → StepOn K meaning s v x r w → not_resend x
+  step_eases : (T : Tally) (v : World C) (s : Side) (x : Call) (r : Answer) (w : World C) → StepOn K meaning s v x r w → not_resent x r
       → Easing K wide meaning T v → Easing K wide meaning (tallied T s x r) w
   step_eases T v A x r w h n i =
       let m = meaning v.ch in
@@ -151,7 +151,7 @@ module _ {C : Type 0} (K : Coding) (wide : ℕ) (short : Short K wide) (meaning 
             (goes m m' (total v.a v.b) (total v.a w.b) T B x r e (total_most v.a w.b) (all_still v i.going i.holding) i.paced);
       }
 
-  run_eases : (T : Tally) (v : World C) (xs : List Move) (rs : List Answer) (w : World C) → world.Run K meaning v xs rs w → no_resend xs
+  run_eases : (T : Tally) (v : World C) (xs : List Move) (rs : List Answer) (w : World C) → world.Run K meaning v xs rs w → none_resent xs rs
       → Easing K wide meaning T v → Easing K wide meaning (tally T xs rs) w
   run_eases T v [] [] w h n i = subst (λ (x : World C). Easing K wide meaning T x) h i
   run_eases T v [] (r ∷ rs) w h n i = elim h [ ]
@@ -173,7 +173,7 @@ module _ {C : Type 0} (K : Coding) (wide : ℕ) (short : Short K wide) (meaning 
       → Start K meaning v
       → Sound (meaning v.ch)
       → Deep wide (meaning v.ch)
-      → no_resend xs
+      → none_resent xs rs
       → 8 ≤ rounds_since xs rs
       → (w.a.out ≡ idle) × (w.b.out ≡ idle)
   comes_to_rest v xs rs w h s sound deep n l =

@@ -11,7 +11,7 @@ use Rattle.line.specs.Meaning.{Same, Sent, Got}
 use Rattle.line.specs.Calls.{Want, ask, settle, taken_as, wire, heard, answer_wire, Msg, request, response, Coding}
 use Rattle.line.specs.World.{Call, asking, resend, deliver, Answer, stopped, Uncounted, Did, refuses, asks, resends, gets_none, ignores, repeats, answers, settles, follows}
 use Rattle.line.specs.Shapes.{Sends, Quiets}
-use Rattle.line.specs.Rest.{Held, Holding, Short, due, owed, heavy, total, not_resend, effect}
+use Rattle.line.specs.Rest.{Held, Holding, Short, due, owed, heavy, total, not_resent, effect}
 use Rattle.line.proofs.Shapes.{ask_shape, Answered, answer_shape, Settled, settle_shape}
 use Rattle.line.proofs.Moves.{due_sent, due_settled}
 use Rattle.line.proofs.Waiting.{AllGood, all_good, sends_request, sends_reply, same_held, gets_nothing, gets_one}
@@ -215,11 +215,11 @@ module _ {C : Type 0} (K : Coding) (wide : ℕ) (short : Short K wide) (meaning 
   refused_pace resend c' k = record { weighs = refl; waiting = k.waiting }
   refused_pace (deliver n) c' k = record { weighs = refl; waiting = k.waiting }
 
-  pub rests : {x : Call} {r : Answer} {P' : Node} {c' : C} → Did K meaning s P c x r P' c' → Sane K P' → not_resend x → Rests K wide s P Q P' (meaning c) (meaning c') x r
+  pub rests : {x : Call} {r : Answer} {P' : Node} {c' : C} → Did K meaning s P c x r P' c' → Sane K P' → not_resent x r → Rests K wide s P Q P' (meaning c) (meaning c') x r
   rests {c' = c'} (refuses {x = x} k) sn n =
       record { holding = same_held K wide short s (meaning c) (meaning c') (due P Q) (owed P Q) (due Q P) (owed Q P) h k; pace = refused_pace x c' k }
   rests {c' = c'} (asks {w = w} {t = t} {P' = P'} i a al e o k) sn n = record { holding = asking_rests w t P' c' i a sn e o k; pace = tt }
-  rests {c' = c'} (resends i a o k) sn n = elim n [ ]
+  rests {c' = c'} (resends i a o k) sn n = cc
   rests {c' = c'} (gets_none k) sn n =
       let g = gets_nothing K wide short s (meaning c) (meaning c') (due P Q) (owed P Q) (due Q P) (owed Q P) h k in
       record {

@@ -15,7 +15,7 @@ use Rattle.channel.specs.Meaning.{other, Meaning, In, Sound, Without}
 use Rattle.line.specs.Meaning.{Same, Sent, Got}
 use Rattle.line.specs.Calls.{Want, to_create, to_rekey, to_delete, to_check, ask, settle, taken_as, wire, answer_wire, Msg, request, response, Coding, Allowed}
 use Rattle.line.specs.World.{Call, asking, resend, deliver, Answer, did, again, stopped, nothing, unused, Did, refuses, asks, resends, gets_none, ignores, repeats, answers, settles, follows, World, Move, Run, made_end, Start}
-use Rattle.line.specs.Rest.{no_resend, rounds_since}
+use Rattle.line.specs.Rest.{not_resent, none_resent, rounds_since}
 use Rattle.line.specs.Whole.{Quiet, Law}
 use Rattle.line.proofs.Codes.{coding, short}
 use Rattle.line.proofs.Whole.{law_of}
@@ -304,12 +304,32 @@ eight = lit≤ tt
 law : Law K 160 meaning start both_rekey (runs start both_rekey).answers end_world (runs start both_rekey).run
 law = law_of K 160 (short 1 2 (lit< tt) (lit< tt)) meaning start both_rekey (runs start both_rekey).answers end_world (runs start both_rekey).run begins
 
-never_in : (n : ℕ) → no_resend (rounds n)
+-- no call is a resend
+abbrev other_call : Call → Type 0
+other_call (asking w) = Unit {0}
+other_call resend = ⊥
+other_call (deliver n) = Unit {0}
+
+abbrev other_calls : List Move → Type 0
+other_calls [] = Unit {0}
+other_calls (x ∷ xs) = other_call x.call × other_calls xs
+
+never_at : (x : Call) (r : Answer) → other_call x → not_resent x r
+never_at (asking w) r h = tt
+never_at resend r h = elim h [ ]
+never_at (deliver n) r h = tt
+
+never_by : (xs : List Move) (rs : List Answer) → other_calls xs → none_resent xs rs
+never_by [] rs h = tt
+never_by (x ∷ xs) [] h = tt
+never_by (x ∷ xs) (r ∷ rs) h = (never_at x.call r h.0, never_by xs rs h.1)
+
+never_in : (n : ℕ) → other_calls (rounds n)
 never_in zero = tt
 never_in (suc n) = (tt, (tt, never_in n))
 
-never : no_resend both_rekey
-never = (tt, (tt, (tt, (tt, (tt, (tt, (tt, (tt, (tt, (tt, never_in 8))))))))))
+never : none_resent both_rekey (runs start both_rekey).answers
+never = never_by both_rekey (runs start both_rekey).answers (tt, (tt, (tt, (tt, (tt, (tt, (tt, (tt, (tt, (tt, never_in 8))))))))))
 
 rests : Quiet end_world
 rests = law.rest sound (record { deep = lit≤ tt; long = lit≤ tt }) never eight

@@ -100,14 +100,16 @@ tally t (x ∷ xs) (r ∷ rs) = tally (tallied t x.side x.call r) xs rs
 abbrev pub rounds_since : List Move → List Answer → ℕ
 rounds_since xs rs = (tally (record { rounds = 0; half = false }) xs rs).rounds
 
-abbrev pub not_resend : Call → Type 0
-not_resend (asking w) = Unit {0}
-not_resend resend = ⊥
-not_resend (deliver n) = Unit {0}
+-- nothing is sent again at this call: it is no resend, or one that is refused
+abbrev pub not_resent : Call → Answer → Type 0
+not_resent (asking w) r = Unit {0}
+not_resent resend r = r ≡ stopped
+not_resent (deliver n) r = Unit {0}
 
-abbrev pub no_resend : List Move → Type 0
-no_resend [] = Unit {0}
-no_resend (x ∷ xs) = not_resend x.call × no_resend xs
+abbrev pub none_resent : List Move → List Answer → Type 0
+none_resent [] rs = Unit {0}
+none_resent (x ∷ xs) [] = Unit {0}
+none_resent (x ∷ xs) (r ∷ rs) = not_resent x.call r × none_resent xs rs
 
 pub record Deep (wide : ℕ) (m : Meaning) : Type 0 where
   pub deep : 2 ≤ m.depth
