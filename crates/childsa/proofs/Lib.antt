@@ -1,3 +1,4 @@
 pub mod Agreed
 pub mod Fronts
 pub mod Numbering
+pub mod Calling
