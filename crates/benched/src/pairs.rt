@@ -23,15 +23,6 @@ const MAKING: Making = Making {
     b: First { id: 0, spi: 2000 },
 };
 
-/// Two ends as they are made, if they are: nothing may come from their queue.
-fn made<P: Book + Drop, Q: Book + Drop>(a: P, b: Q) -> Option<Pair<P, Q, Queue>>
-    ensures start { IfSome result (λ pair. Start queue_means (world pair)) }
-    ensures empty { length (P.Book.shelf a).rows ≡ 0 → length (Q.Book.shelf b).rows ≡ 0 → IsSome result }
-{
-    let queue = Queue::new(160).ok()?;
-    Pair::new(MAKING, a, b, queue).ok()
-}
-
 /// A number made of all answers.
 fn answers_number(answers: &[Answer]) -> u64
     ensures { result ≡ answers_number answers.now }
@@ -60,7 +51,13 @@ pub(crate) fn play<P: Book + Drop, Q: Book + Drop>(
     ensures played { IfSome result (Played (plain_moves moves.now)) }
     ensures memory { moves.now ≡ [] → length (P.Book.shelf a).rows ≡ 0 → length (Q.Book.shelf b).rows ≡ 0 → IsSome result }
 {
-    let mut pair = made(a, b)?;
+    // by patterns and not by `?`, since a pair is large and is not to be moved more than it has to be
+    let Ok(queue) = Queue::new(160) else {
+        return None;
+    };
+    let Ok(mut pair) = Pair::new(MAKING, a, b, queue) else {
+        return None;
+    };
     match pair.run(heap, moves) {
         Ok(answers) => Some(play_number(answers.as_slice(), &pair)),
         Err(_) => None,
