@@ -1,6 +1,6 @@
 # The program on its example script, and the gate.
 SHELL := /bin/bash
-.PHONY: all run test histories
+.PHONY: all run test histories bench
 N ?= 1000000
 SEED ?= 1
 
@@ -14,6 +14,13 @@ run:
 # The program and the independent one, over N histories by SEED.
 histories:
 	@independent/try $(N) $(SEED)
+
+# Times the library's functions beside those of the independent program, on one core; ONLY=WORD takes the lines with that word.
+# It needs cargo, and is no part of the gate. docs/PERFORMANCE.md has the figures.
+bench:
+	@log=$$(mktemp); (cd crates/benched && rt lib) > $$log 2>&1 < /dev/null || { cat $$log; rm -f $$log; exit 1; }; rm -f $$log
+	@cd bench && RATTLE_C=$$(dirname "$$(readlink -f "$$(command -v rt)")")/../c cargo build --quiet --release --offline
+	@taskset -c $$(( $$(nproc) - 1 )) bench/target/release/bench $(ONLY)
 
 # The whole gate: everything proved, the must-fail edits, the programs' output, the tests; then, with the program that this built, the
 # scripts of examples/ with the output that is stored beside each, and some histories against the independent program; the

@@ -4,4 +4,5 @@ pub mod Exactly
 pub mod Namings
 pub mod Only
 pub mod Openings
+pub mod Placing
 pub mod Worked
