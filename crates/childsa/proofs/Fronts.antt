@@ -6,7 +6,7 @@ use Rattle.std.proofs.lemmas.Bool.{ltb-false}
 use Rattle.wire.specs.Messages.{octets_of}
 use Rattle.wire.specs.Encoding.{written, overwritten}
 use Rattle.wire.specs.declared.message.Message.{Message}
-use Rattle.childsa.specs.Hex.{hex_text}
+use Rattle.texts.specs.Hex.{hex_text}
 use Rattle.wire.specs.declared.message.EncodeRefusal.TheVariants.{BufferTooShort}
 
 pub record Front (o out : List ℕ) (len : ℕ) (after : List ℕ) : Type 0 where

@@ -1,4 +1,2 @@
-pub mod Agreed
 pub mod Fronts
-pub mod Numbering
 pub mod Calling

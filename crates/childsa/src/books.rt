@@ -1,24 +1,23 @@
 //! The commands on books.
-ghost use Rattle.std.specs.Prelude.{◌≡◌, IfOk, Some, string_bytes};
+ghost use Rattle.std.specs.Prelude.{◌≡◌, IfOk, string_bytes};
 ghost use Rattle.book.specs.Audits.{audited};
 ghost use Rattle.book.specs.Shelves.{put_in, written_in, removed_from, read_in, find as found_in, next as next_in};
-ghost use Rattle.childsa.specs.Told.{told, spi_text, read_text, rows_text, finding_text};
+ghost use Rattle.childsa.specs.Told.{told, rows_text};
+ghost use Rattle.texts.specs.Told.{spi_text, read_text, finding_text};
 
-use chosen::any_book::AnyBook;
 use crate::commands::Line;
 use crate::desk::Desk;
-use crate::row_text::read_row;
-use crate::told::{Refused, Told};
+use crate::row_words::read_row;
 use crate::words::Words;
 use crate::wrong::{Stop, Wrong};
-use book::audit::Alone;
+use book::Book;
 use book::row::Row;
-use book::{Book, BookRefusal};
+use chosen::any_book::AnyBook;
 use nonce::side::Side;
 use ordered::OrderedBook;
 use std::alloc::{AllocError, Global};
-use std::fmt;
 use table::TableBook;
+use texts::told::Told;
 
 /// `book KIND BOOK`: starts a book with no rows.
 pub(crate) fn start(line: &mut Line<'_>) -> Result<String, Stop> {
@@ -187,32 +186,4 @@ pub(crate) fn audit_text<P: Book, Q: Book>(heap: Global, a: &P, b: &Q) -> Result
     ensures { IfOk result (λ s. string_bytes s ≡ finding_text (audited (P.Book.shelf a.now) (Q.Book.shelf b.now))) }
 {
     Told(book::audit::audit(a, b)).to_string(heap)
-}
-
-/// The answer to a read of a book.
-impl fmt::Display for Told<Result<Row, BookRefusal>> {
-    ghost output = { λ t. Some (read_text t.0) };
-
-    fn fmt<W: fmt::Write>(&self, f: &mut fmt::Formatter<W>) -> fmt::Result {
-        match self.0 {
-            Ok(row) => Told(row).fmt(f),
-            Err(refusal) => Refused(refusal).fmt(f),
-        }
-    }
-}
-
-/// What an audit finds.
-impl fmt::Display for Told<Option<Alone>> {
-    ghost output = { λ t. Some (finding_text t.0) };
-
-    fn fmt<W: fmt::Write>(&self, f: &mut fmt::Formatter<W>) -> fmt::Result {
-        let Some(Alone { side, row }) = self.0 else {
-            return write!(f, "all rows have their mirror");
-        };
-        let row = Told(row);
-        match side {
-            Side::A => write!(f, "no mirror in B: {row}"),
-            Side::B => write!(f, "no mirror in A: {row}"),
-        }
-    }
 }

@@ -3,12 +3,8 @@ ghost use Rattle.std.specs.Prelude.{◌≤◌, IfOk, string_bytes};
 ghost use Rattle.childsa.specs.Bottoms.{BottomMade};
 ghost use Rattle.childsa.specs.Told.{ReceivedText};
 
-use chosen::any_bottom::AnyBottom;
 use crate::commands::Line;
 use crate::desk::Desk;
-use crate::digits::Hex;
-use chosen::pile::{self, Pile};
-use crate::told::{Refused, Told};
 use crate::words::Words;
 use crate::wrong::{Stop, Wrong};
 use bottoms::queue::Queue;
@@ -16,9 +12,13 @@ use bottoms::refusal::MakeRefusal;
 use bottoms::stack::Stack;
 use bottoms::trace::Trace;
 use channel::channel::Channel;
+use chosen::any_bottom::AnyBottom;
+use chosen::pile::{self, Pile};
 use nonce::side::Side;
 use std::alloc::{AllocError, Global};
 use std::fmt;
+use texts::digits::Hex;
+use texts::told::{Refused, Told};
 
 /// The bottom that is asked for; the fates of a trace are as they are written.
 #[derive(Clone, Copy)]

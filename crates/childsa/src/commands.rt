@@ -3,7 +3,7 @@ use crate::desk::Desk;
 use crate::help::help;
 use crate::words::Words;
 use crate::wrong::{Stop, Wrong};
-use crate::{books, channels, ends, ladder, messages, moves, report};
+use crate::{books, channels, ends, messages, moves, report};
 use nonce::side::Side;
 use std::alloc::Global;
 
@@ -52,7 +52,7 @@ fn perform(line: &mut Line<'_>, command: &str) -> Result<String, Stop> {
         "round" => moves::round(line),
         "books" => report::books(line),
         "ends" => report::ends(line),
-        "ladder" => ladder::show(line),
+        "ladder" => report::ladder(line),
         "help" => help(&mut line.words),
         _ => Err(Wrong::Command(command.to_string(line.words.heap)?).into()),
     }

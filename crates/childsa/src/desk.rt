@@ -4,10 +4,10 @@ ghost use Rattle.std.specs.Option.{option_map};
 ghost use Rattle.chosen.specs.Piles.{pile_behaves};
 ghost use Rattle.childsa.specs.Desks.{empty_desk, book_at, with_book, with_markers};
 
-use chosen::any_book::AnyBook;
 use crate::ends::Ends;
-use chosen::pile::Pile;
 use channel::channel::Channel;
+use chosen::any_book::AnyBook;
+use chosen::pile::Pile;
 use nonce::both::Both;
 use nonce::side::Side;
 

@@ -5,15 +5,11 @@ ghost use Rattle.law.specs.Laws.{Lawful, GoesOn};
 ghost use Rattle.pair.specs.Worlds.{world};
 ghost use Rattle.chosen.specs.Piles.{pile_behaves};
 ghost use Rattle.channel.specs.Meaning.{other};
-ghost use Rattle.childsa.specs.Ladders.{fate_of};
 
-use chosen::any_book::AnyBook;
 use crate::books::read_kind;
 use crate::channels::{new_bottom, read_markers_before, read_wanted};
 use crate::commands::Line;
-use crate::ladder::{Event, Fate, Ladder};
 use crate::moves::told;
-use chosen::pile::{self, Pile};
 use crate::tap::Tap;
 use crate::words::Words;
 use crate::wrong::Stop;
@@ -21,11 +17,13 @@ use calls::answers::Answer;
 use calls::making::{First, Making};
 use calls::moves::Move;
 use calls::refusals::{DeliverRefusal, MakingRefusal};
-use channel::sent::Sent;
+use chosen::any_book::AnyBook;
+use chosen::pile::{self, Pile};
 use nonce::side::Side;
 use numbered::Numbered;
 use pair::Pair;
 use std::alloc::{AllocError, Global};
+use texts::ladder::{Event, Fate, Ladder};
 
 /// Two ends over a channel of their own, and the messages that went between them.
 #[derive(Drop)]
@@ -152,7 +150,7 @@ fn draw(
         ladder.draw(at, Event::Comes(refused), octets)?;
     }
     if let (true, Some((octets, sent))) = (sends(answer), tap.sent()) {
-        ladder.draw(at, Event::Leaves(fate_of(sent, more)), octets)?;
+        ladder.draw(at, Event::Leaves(Fate::of(sent, more)), octets)?;
     }
     Ok(())
 }
@@ -173,17 +171,5 @@ fn sends(answer: Answer) -> bool {
         Answer::Asked(asked) => asked.is_ok(),
         Answer::Resent(resent) => resent.is_ok(),
         Answer::Heard(heard) => heard.is_ok(),
-    }
-}
-
-/// What becomes of a message, by how many more datagrams wait where it goes.
-fn fate_of(sent: Sent, more: usize) -> Fate
-    ensures { result ≡ fate_of sent more }
-{
-    match (sent, more) {
-        (Sent::NotTaken, _) => Fate::NotTaken,
-        (Sent::Taken, 0) => Fate::Lost,
-        (Sent::Taken, 1) => Fate::Once,
-        (Sent::Taken, _) => Fate::Twice,
     }
 }

@@ -7,17 +7,14 @@ mod books;
 mod channels;
 mod commands;
 mod desk;
-mod digits;
 mod ends;
 mod fault;
 mod help;
-mod ladder;
 mod messages;
 mod moves;
 mod report;
-mod row_text;
+mod row_words;
 mod tap;
-mod told;
 mod words;
 mod wrong;
 

@@ -1,18 +1,19 @@
 //! The commands on messages and nonces.
 ghost use Rattle.std.specs.Prelude.{◌≡◌, IfOk, string_bytes};
+ghost use Rattle.wire.specs.Decoding.{decoded};
 ghost use Rattle.wire.specs.Messages.{octets_of};
 ghost use Rattle.nonce.specs.Order.{lower_of, loser_in};
-ghost use Rattle.childsa.specs.Hex.{hex_text};
 ghost use Rattle.nonce.specs.Names.{side_text};
+ghost use Rattle.childsa.specs.Told.{decoded_text};
+ghost use Rattle.texts.specs.Hex.{hex_text};
 
-use crate::digits::Hex;
-use crate::told::{Refused, Told};
 use crate::words::Words;
 use crate::wrong::{Stop, Wrong};
 use nonce::Nonce;
 use nonce::order::{Exchanged, compare};
 use std::alloc::{AllocError, Global};
-use std::fmt;
+use texts::digits::Hex;
+use texts::told::{Refused, Told};
 use wire::header::Direction;
 use wire::message::{Body, Failure, Message, Request, Response};
 
@@ -23,10 +24,7 @@ const LONGEST: usize = 160;
 pub(crate) fn decode(words: &mut Words<'_>) -> Result<String, Stop> {
     let octets = words.datagram()?;
     words.end()?;
-    match wire::decode::decode(octets.as_slice()) {
-        Ok(message) => Ok(Told(message).to_string(words.heap)?),
-        Err(refusal) => Ok(Refused(refusal).to_string(words.heap)?),
-    }
+    Ok(decoded_text(words.heap, octets.as_slice())?)
 }
 
 /// `encode MESSAGE`: the octets of the message.
@@ -62,6 +60,16 @@ fn read_exchanged(words: &mut Words<'_>) -> Result<Exchanged, Stop> {
     })
 }
 
+/// The message that octets are as text, or the number of the check that they fail.
+fn decoded_text(heap: Global, octets: &[u8]) -> Result<String, AllocError>
+    ensures { IfOk result (λ s. string_bytes s ≡ decoded_text (decoded octets.now)) }
+{
+    match wire::decode::decode(octets) {
+        Ok(message) => Told(message).to_string(heap),
+        Err(refusal) => Refused(refusal).to_string(heap),
+    }
+}
+
 /// The octets of a message as text.
 fn octets_text(heap: Global, message: &Message<Nonce>) -> Result<String, Stop>
     ensures { IfOk result (λ s. string_bytes s ≡ hex_text (octets_of message.now)) }
@@ -84,61 +92,6 @@ fn loser_text(heap: Global, a: &Exchanged, b: &Exchanged) -> Result<String, Allo
     ensures { IfOk result (λ s. string_bytes s ≡ side_text (loser_in a.now b.now)) }
 {
     compare::loser(a, b).to_string(heap)
-}
-
-impl fmt::Display for Told<Message<&[u8]>> {
-    fn fmt<W: fmt::Write>(&self, f: &mut fmt::Formatter<W>) -> fmt::Result {
-        let message = &self.0;
-        let initiator = message.initiator;
-        let responder = message.responder;
-        let sender = message.sender;
-        let id = message.id;
-        write!(f, "ike {initiator:016x} {responder:016x} {sender} ")?;
-        match message.body {
-            Body::Request(request) => {
-                let request = Told(request);
-                write!(f, "request {id} {request}")
-            }
-            Body::Response(response) => {
-                let response = Told(response);
-                write!(f, "response {id} {response}")
-            }
-        }
-    }
-}
-
-impl fmt::Display for Told<Request<&[u8]>> {
-    fn fmt<W: fmt::Write>(&self, f: &mut fmt::Formatter<W>) -> fmt::Result {
-        match self.0 {
-            Request::Create { spi, nonce } => {
-                let nonce = Hex(nonce);
-                write!(f, "create spi {spi} nonce {nonce}")
-            }
-            Request::Rekey { old, spi, nonce } => {
-                let nonce = Hex(nonce);
-                write!(f, "rekey old {old} spi {spi} nonce {nonce}")
-            }
-            Request::Delete { spi } => write!(f, "delete spi {spi}"),
-            Request::Empty => write!(f, "empty"),
-        }
-    }
-}
-
-impl fmt::Display for Told<Response<&[u8]>> {
-    fn fmt<W: fmt::Write>(&self, f: &mut fmt::Formatter<W>) -> fmt::Result {
-        match self.0 {
-            Response::NewSa { spi, nonce } => {
-                let nonce = Hex(nonce);
-                write!(f, "new spi {spi} nonce {nonce}")
-            }
-            Response::Failed(Failure::NoProposalChosen) => write!(f, "notify 14"),
-            Response::Failed(Failure::NoAdditionalSas) => write!(f, "notify 35"),
-            Response::Failed(Failure::TemporaryFailure) => write!(f, "notify 43"),
-            Response::Failed(Failure::ChildSaNotFound { spi }) => write!(f, "notify 44 spi {spi}"),
-            Response::Delete { spi } => write!(f, "delete spi {spi}"),
-            Response::Empty => write!(f, "empty"),
-        }
-    }
 }
 
 /// A message, in the words that `decode` prints.

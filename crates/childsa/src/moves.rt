@@ -1,16 +1,15 @@
 //! The calls of the two ends.
-ghost use Rattle.std.specs.Prelude.{◌≡◌, ◌++◌, IfOk, Some, string_bytes, codes, decimal};
-ghost use Rattle.childsa.specs.Told.{numbers_text};
+ghost use Rattle.std.specs.Prelude.{◌≡◌, ◌++◌, IfOk, string_bytes, codes, decimal};
+ghost use Rattle.texts.specs.Told.{numbers_text};
 
 use crate::commands::Line;
-use crate::told::Told;
 use crate::words::Words;
 use crate::wrong::{Stop, Wrong};
 use calls::answers::Answer;
 use calls::moves::{Call, Move};
 use nonce::side::Side;
 use std::alloc::{AllocError, Global};
-use std::fmt;
+use texts::told::Told;
 
 /// `A CALL`, `B CALL`: a call of an end.
 pub(crate) fn call(line: &mut Line<'_>, side: Side) -> Result<String, Stop> {
@@ -96,17 +95,4 @@ fn numbers_text(heap: Global, itself: &str, answers: &[Answer]) -> Result<String
 {
     let numbers = Told(answers);
     format!(in heap; "{itself} ={numbers}")
-}
-
-/// The numbers of answers, a space before each.
-impl fmt::Display for Told<&[Answer]> {
-    ghost output = { λ t. Some (numbers_text t.0.now) };
-
-    fn fmt<W: fmt::Write>(&self, f: &mut fmt::Formatter<W>) -> fmt::Result {
-        for answer in self.0 {
-            let number = answer.number();
-            write!(f, " {number}")?;
-        }
-        Ok(())
-    }
 }

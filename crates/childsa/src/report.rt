@@ -1,20 +1,13 @@
 //! What the two ends are after the calls so far.
-ghost use Rattle.std.specs.Prelude.{Some};
-ghost use Rattle.childsa.specs.Told.{left_text, doing_text, end_text};
-
-use chosen::any_book::AnyBook;
 use crate::books::{audit_text, rows_text};
 use crate::commands::Line;
 use crate::ends::Ends;
-use crate::told::Told;
 use crate::wrong::{Stop, Wrong};
 use book::Book;
-use endpoint::Endpoint;
-use endpoint::outstanding::Outstanding;
-use law::kinds::Kind;
+use chosen::any_book::AnyBook;
 use nonce::side::Side;
 use std::alloc::{AllocError, Global};
-use std::fmt;
+use texts::told::Told;
 
 /// `books`: the rows of both books, and what an audit finds.
 pub(crate) fn books(line: &mut Line<'_>) -> Result<String, Stop> {
@@ -38,6 +31,13 @@ pub(crate) fn ends(line: &mut Line<'_>) -> Result<String, Stop> {
     Ok(format!(in line.words.heap; "A {a}\nB {b}")?)
 }
 
+/// `ladder`: the messages so far as a picture.
+pub(crate) fn ladder(line: &mut Line<'_>) -> Result<String, Stop> {
+    line.words.end()?;
+    let Ends { ladder, .. } = line.desk.ends.as_ref().ok_or(Wrong::NoEnds)?;
+    Ok(ladder.text().to_string(line.words.heap)?)
+}
+
 /// The book of an end: its kind, how many rows it has, and a line for each by rising own SPI.
 fn book_text(heap: Global, name: Side, book: &AnyBook) -> Result<String, AllocError> {
     let kind = book.kind();
@@ -55,62 +55,4 @@ fn book_text(heap: Global, name: Side, book: &AnyBook) -> Result<String, AllocEr
         last = own;
     }
     Ok(text)
-}
-
-/// A number that rises, or that it is spent.
-#[derive(Clone, Copy)]
-struct Left(Option<u32>);
-
-impl fmt::Display for Left {
-    ghost output = { λ l. Some (left_text l.0) };
-
-    fn fmt<W: fmt::Write>(&self, f: &mut fmt::Formatter<W>) -> fmt::Result {
-        match self.0 {
-            Some(number) => write!(f, "{number}"),
-            None => write!(f, "spent"),
-        }
-    }
-}
-
-/// The numbers of an end, and its outstanding request.
-impl<B: Book> fmt::Display for Told<&Endpoint<B>> {
-    ghost output = { λ t. Some (end_text t.0.now) };
-
-    fn fmt<W: fmt::Write>(&self, f: &mut fmt::Formatter<W>) -> fmt::Result {
-        let end = self.0;
-        let next = Left(end.next_id());
-        let expected = Left(end.expected_id());
-        let spi = Left(end.next_spi());
-        let doing = Doing {
-            outstanding: end.outstanding(),
-            collided: end.has_collision(),
-        };
-        write!(f, "next {next} expected {expected} spi {spi} {doing}")
-    }
-}
-
-/// The outstanding request of an end, and whether it has recorded a collision.
-#[derive(Clone, Copy)]
-struct Doing {
-    outstanding: Option<Outstanding>,
-    collided: bool,
-}
-
-impl fmt::Display for Doing {
-    ghost output = { λ d. Some (doing_text d.outstanding d.collided) };
-
-    fn fmt<W: fmt::Write>(&self, f: &mut fmt::Formatter<W>) -> fmt::Result {
-        let Some(Outstanding { id, kind, own, old }) = self.outstanding else {
-            return write!(f, "quiet");
-        };
-        match kind {
-            Kind::Create => write!(f, "create id {id} own {own}"),
-            Kind::Rekey if self.collided => {
-                write!(f, "rekey id {id} own {own} old {old} collision")
-            }
-            Kind::Rekey => write!(f, "rekey id {id} own {own} old {old}"),
-            Kind::Delete => write!(f, "delete id {id} own {own}"),
-            Kind::Check => write!(f, "check id {id}"),
-        }
-    }
 }

@@ -1,16 +1,16 @@
 //! The words of a line, and what they stand for.
 ghost use Rattle.std.specs.Prelude.{◌≡◌, ◌++◌, IfOk, Some, string_bytes, codes};
 ghost use Rattle.nonce.specs.Nonces.{as_nonce};
-ghost use Rattle.childsa.specs.Hex.{from_hex};
+ghost use Rattle.texts.specs.Hex.{from_hex};
 ghost use Rattle.childsa.specs.Read.{decimal, spread, ike_spi};
 
-use crate::digits::from_hex;
 use crate::wrong::{Stop, Wrong};
 use nonce::Nonce;
 use nonce::side::Side;
 use octets::u64_at;
 use std::alloc::{AllocError, Global};
 use std::str::SplitWhitespace;
+use texts::digits::from_hex;
 
 /// The words of a line that are still to be read.
 #[derive(Drop)]
