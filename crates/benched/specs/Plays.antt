@@ -1,6 +1,6 @@
 -- A play: two ends from their making on. The number that is made of it.
 use Rattle.std.specs.Prelude.{◌≡◌, ℕ, ◌-◌, ◌^◌, Bool, cond, ◌&&◌, ◌⊎◌, List, length, fold}
-use Rattle.bottoms.specs.Bottoms.{Queue, queue_means}
+use Rattle.bottoms.specs.Bottoms.{Queue, queue_behaves}
 use Rattle.calls.specs.Numbers.{answer_number}
 use Rattle.calls.specs.declared.answers.Answer.{Answer}
 use Rattle.law.specs.Ends.{is_quiet}
@@ -26,8 +26,8 @@ pub record Played (ms : Moves) (n : ℕ) : Type 0 where
   pub first : World Queue
   pub answers : List Answer
   pub last : World Queue
-  pub start : Start queue_means first
-  pub lawful : Lawful queue_means first ms answers last
+  pub start : Start queue_behaves first
+  pub lawful : Lawful queue_behaves first ms answers last
   pub number : n ≡ play_number answers last
 
 -- what stands for a play that did not take place, since there was no memory for its answers

@@ -1,6 +1,6 @@
 //! Two ends over a queue, from their making on.
 ghost use Rattle.std.specs.Prelude.{◌≡◌, [], IfSome, IsSome, length};
-ghost use Rattle.bottoms.specs.Bottoms.{queue_means};
+ghost use Rattle.bottoms.specs.Bottoms.{queue_behaves};
 ghost use Rattle.calls.specs.Plain.{plain_moves};
 ghost use Rattle.law.specs.Runs.{Start};
 ghost use Rattle.pair.specs.Worlds.{world};

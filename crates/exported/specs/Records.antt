@@ -2,6 +2,7 @@
 use Rattle.std.specs.Prelude.{ℕ, ◌-◌, List, [], ◌++◌, length, replicate, Ok, Err, Result}
 use Rattle.nonce.specs.declared.side.Side.{Side}
 use Rattle.nonce.specs.declared.side.Side.TheVariants.{A, B}
+use Rattle.wire.specs.Payloads.{failure_number, failure_spi}
 use Rattle.wire.specs.Refusals.{decode_number}
 use Rattle.wire.specs.declared.message.Message.{Message}
 use Rattle.wire.specs.declared.message.Body.{Body}
@@ -11,7 +12,6 @@ use Rattle.wire.specs.declared.message.Request.TheVariants as request
 use Rattle.wire.specs.declared.message.Response.{Response}
 use Rattle.wire.specs.declared.message.Response.TheVariants as response
 use Rattle.wire.specs.declared.message.Failure.{Failure}
-use Rattle.wire.specs.declared.message.Failure.TheVariants.{NoProposalChosen, NoAdditionalSas, TemporaryFailure, ChildSaNotFound}
 use Rattle.wire.specs.declared.message.DecodeRefusal.{DecodeRefusal}
 use Rattle.exported.specs.declared.record.Record.{Record}
 use Rattle.exported.specs.declared.record.Says.{Says}
@@ -45,10 +45,7 @@ said s = says s.kind s.spi s.rekeyed s.failure s.nonce.now
 
 -- a failure: the type of its notification, and the SPI that it names
 abbrev pub failure_told : Failure → Said
-failure_told NoProposalChosen = plainly 6 0 14
-failure_told NoAdditionalSas = plainly 6 0 35
-failure_told TemporaryFailure = plainly 6 0 43
-failure_told (ChildSaNotFound spi) = plainly 6 spi 44
+failure_told f = plainly 6 (failure_spi f) (failure_number f)
 
 abbrev pub request_says : Request (List ℕ) → Said
 request_says (request.Create spi n) = says 1 spi 0 0 n

@@ -73,12 +73,7 @@ fn failure_says<'a>(failure: Failure) -> Says<'a>
     ensures value { said result ≡ failure_told failure }
     ensures short { length result.nonce.now ≤ 32 }
 {
-    match failure {
-        Failure::NoProposalChosen => plainly(6, 0, 14),
-        Failure::NoAdditionalSas => plainly(6, 0, 35),
-        Failure::TemporaryFailure => plainly(6, 0, 43),
-        Failure::ChildSaNotFound { spi } => plainly(6, spi, 44),
-    }
+    plainly(6, failure.spi(), failure.number())
 }
 
 fn request_says(request: Request<&[u8]>) -> Says<'_>

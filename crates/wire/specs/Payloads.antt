@@ -29,12 +29,25 @@ ts_body =
 unfoldable pub rekey_body : ℕ → List ℕ
 rekey_body spi = 0x03 ∷ 0x04 ∷ (be16 16393 ++ be32 spi)
 
--- the error notifications; CHILD_SA_NOT_FOUND says the SPI that was not found
+-- the types of the error notifications
+abbrev pub failure_number : Failure → ℕ
+failure_number NoProposalChosen = 14
+failure_number NoAdditionalSas = 35
+failure_number TemporaryFailure = 43
+failure_number (ChildSaNotFound spi) = 44
+
+-- the SPI that an error notification says: that which was not found; 0, where it says none
+abbrev pub failure_spi : Failure → ℕ
+failure_spi NoProposalChosen = 0
+failure_spi NoAdditionalSas = 0
+failure_spi TemporaryFailure = 0
+failure_spi (ChildSaNotFound spi) = spi
+
 unfoldable pub failure_body : Failure → List ℕ
-failure_body NoProposalChosen = 0x00 ∷ 0x00 ∷ be16 14
-failure_body NoAdditionalSas = 0x00 ∷ 0x00 ∷ be16 35
-failure_body TemporaryFailure = 0x00 ∷ 0x00 ∷ be16 43
-failure_body (ChildSaNotFound spi) = 0x03 ∷ 0x04 ∷ (be16 44 ++ be32 spi)
+failure_body NoProposalChosen = 0x00 ∷ 0x00 ∷ be16 (failure_number NoProposalChosen)
+failure_body NoAdditionalSas = 0x00 ∷ 0x00 ∷ be16 (failure_number NoAdditionalSas)
+failure_body TemporaryFailure = 0x00 ∷ 0x00 ∷ be16 (failure_number TemporaryFailure)
+failure_body (ChildSaNotFound spi) = 0x03 ∷ 0x04 ∷ (be16 (failure_number (ChildSaNotFound spi)) ++ be32 spi)
 
 -- Delete (42): ESP, SPIs of 4 octets, one of them: the sender's own
 unfoldable pub delete_body : ℕ → List ℕ

@@ -1,5 +1,7 @@
 //! What the messages about Child SAs say.
+ghost use Rattle.std.specs.Prelude.{◌≡◌};
 ghost use Rattle.numbered.specs.Apart.{apart_by};
+ghost use Rattle.wire.specs.Payloads.{failure_number, failure_spi};
 ghost use Rattle.wire.specs.Refusals.{decode_number, decode_of, decode_told, encode_number, encode_of, encode_told};
 
 use nonce::side::Side;
@@ -63,6 +65,30 @@ pub enum Failure {
     TemporaryFailure,
     /// The requester's SPI of the SA to be rekeyed is not known.
     ChildSaNotFound { spi: u32 },
+}
+
+impl Failure {
+    /// The type of the notification.
+    pub fn number(self) -> u16
+        ensures { result ≡ failure_number self }
+    {
+        match self {
+            Failure::NoProposalChosen => 14,
+            Failure::NoAdditionalSas => 35,
+            Failure::TemporaryFailure => 43,
+            Failure::ChildSaNotFound { .. } => 44,
+        }
+    }
+
+    /// The SPI that was not found; 0, where none is told.
+    pub fn spi(self) -> u32
+        ensures { result ≡ failure_spi self }
+    {
+        match self {
+            Failure::ChildSaNotFound { spi } => spi,
+            _ => 0,
+        }
+    }
 }
 
 /// Why octets are no message, by the first check that fails; as a number, that of the check.
