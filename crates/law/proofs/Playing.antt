@@ -4,8 +4,8 @@ use Rattle.std.proofs.lemmas.Bool.{leb-true}
 use Rattle.nonce.specs.Nonces.{nonce_long}
 use Rattle.nonce.specs.declared.side.Side.{Side}
 use Rattle.nonce.specs.declared.side.Side.TheVariants.{A, B}
-use Rattle.channel.specs.Behaviour.{Behaviour, Sends}
-use Rattle.channel.specs.Meaning.{Meaning, In, Within, other}
+use Rattle.channel.specs.Behaviour.{Sends}
+use Rattle.channel.specs.Meaning.{In, Within, other}
 use Rattle.channel.specs.declared.sent.Sent.{Sent}
 use Rattle.channel.specs.declared.sent.Sent.TheVariants.{Taken, NotTaken}
 use Rattle.calls.specs.declared.answers.Answer.{Answer}
@@ -25,44 +25,7 @@ use Rattle.law.specs.Deliveries.{Heard, refused, again, done, heard}
 use Rattle.law.specs.Effects.{Comes, Replies, Acts, Resent}
 use Rattle.law.specs.Effects as effects
 use Rattle.law.specs.Runs.{World, Called, Step, Run}
-
--- what waits for each end
-pub record Lanes : Type 0 where
-  pub a : List (List ℕ)
-  pub b : List (List ℕ)
-
-abbrev lane : Side → Lanes → List (List ℕ)
-lane A l = l.a
-lane B l = l.b
-
-abbrev with_lane : Side → List (List ℕ) → Lanes → Lanes
-with_lane A ds l = record { a = ds; b = l.b }
-with_lane B ds l = record { a = l.a; b = ds }
-
--- it promises nothing: its depth is 0
-abbrev pub meaning : Lanes → Meaning
-meaning l = record { longest = 256; depth = 0; waiting = λ e. []; may = λ e d. In d (lane e l) }
-
--- what becomes of a datagram that was taken
-pub data Fate : Type 0 where
-  kept lost twice : Fate
-
-abbrev more : Fate → List ℕ → List (List ℕ) → List (List ℕ)
-more kept o ds = ds ++ (o ∷ [])
-more lost o ds = ds
-more twice o ds = ds ++ (o ∷ (o ∷ []))
-
--- a send is not taken, or taken with some fate; a receive gives the first
-abbrev gives_first : List (List ℕ) → Lanes → Side → Option (List ℕ) → Lanes → Type 0
-gives_first [] c at came d = (came ≡ None) × (d ≡ c)
-gives_first (x ∷ xs) c at came d = (came ≡ Some x) × (d ≡ with_lane at xs c)
-
-abbrev pub behaviour : Behaviour Lanes
-behaviour = record {
-  meaning = meaning;
-  sends = λ c to o t d. ((t ≡ NotTaken) × (d ≡ c)) ⊎ ((f : Fate) × (t ≡ Taken) × (d ≡ with_lane to (more f o (lane to c)) c));
-  gives = λ c at came d. gives_first (lane at c) c at came d;
-}
+use Rattle.law.specs.Samples.{Lanes, lane, with_lane, meaning, Fate, kept, lost, twice, more, gives_first, behaviour, Turn, moves}
 
 in_more : (o d : List ℕ) (ds : List (List ℕ)) (xs : List (List ℕ)) → (In d xs → o ≡ d) → In d (ds ++ xs) → In d ds ⊎ ((Taken ≡ Taken) × (o ≡ d))
 in_more o d [] xs f h = inr (refl, f h)
@@ -241,11 +204,6 @@ play f e c (Deliver n) =
     let p = play_deliver f e c n (nonce_long n) in
     record { answer = answer.Heard p.answer; end = p.end; lanes = p.lanes; called = p.does }
 
--- a call of one of two ends, with the fate of what it sends
-pub record Turn : Type 0 where
-  pub move : Move (List ℕ)
-  pub fate : Fate
-
 record Stepping (v : World Lanes) (m : Move (List ℕ)) : Type 0 where
   answer : Answer
   world : World Lanes
@@ -258,10 +216,6 @@ step_by v A x f =
 step_by v B x f =
     let p = play f v.b v.channel x in
     record { answer = p.answer; world = record { a = v.a; b = p.end; channel = p.lanes }; step = record { this = p.called; that = refl } }
-
-abbrev moves : List Turn → List (Move (List ℕ))
-moves [] = []
-moves (t ∷ ts) = t.move ∷ moves ts
 
 -- a run, with its answers and the world after it
 pub record Running (v : World Lanes) (ts : List Turn) : Type 0 where

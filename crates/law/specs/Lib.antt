@@ -9,3 +9,4 @@ pub mod Effects
 pub mod Runs
 pub mod Laws
 pub mod Lines
+pub mod Samples

@@ -1,7 +1,9 @@
 //! What an end does at each ask and at each message, as definitions, and the law over every run of them.
 #![tactic(auto)]
 
+ghost use Rattle.std.specs.Prelude.{[], ◌∷◌};
 ghost use Rattle.law.specs.Laws.{KeepsLaw};
+ghost use Rattle.law.specs.Samples.{Leads, collision, collision_numbers, mishaps, mishap_numbers};
 
 use channel::channel::Channel;
 
@@ -12,4 +14,12 @@ pub mod lines;
 /// says nothing of code; that speaks of it by being held to the same definitions.
 pub fn definitions_keep_the_law<C: Channel>(_over: &C)
     ensures { KeepsLaw C.Channel.behaviour }
+{}
+
+/// The law is not empty: there are runs that the definitions compute, a collision of two rekeys and a line that loses and
+/// repeats, with these answers, after which both ends are quiet and their books agree.
+#[tactic(auto, using(crate::proofs::Samples::collides, crate::proofs::Samples::mishaps_pass))]
+pub fn runs_are_there()
+    ensures collision { Leads collision collision_numbers (1002 ∷ []) }
+    ensures mishaps { Leads mishaps mishap_numbers [] }
 {}
