@@ -2,6 +2,7 @@
 use Rattle.std.specs.Prelude.{ℕ, Bool, cond, List, [], ◌∷◌, Some, None, Option, is_some, ◌==◌}
 use Rattle.std.specs.Borrow.{Bor}
 use Rattle.wire.specs.Decoding.{Opened}
+use Rattle.wire.specs.Messages.{type_number}
 use Rattle.wire.specs.declared.payload.PayloadType.{PayloadType}
 use Rattle.wire.specs.declared.payload.PayloadType.TheVariants as type
 use Rattle.wire.specs.declared.payload.Offer.{Offer}
@@ -15,12 +16,12 @@ cut p = record { body = p.0.now; next = p.1.kind; rest = p.1.octets.now }
 
 -- the type of a payload
 abbrev pub type_of : Payload → ℕ
-type_of (Sa b) = 33
-type_of (Nonce b) = 40
-type_of (Notify b) = 41
-type_of (Delete b) = 42
-type_of (TsInitiator b) = 44
-type_of (TsResponder b) = 45
+type_of (Sa b) = type_number type.Sa
+type_of (Nonce b) = type_number type.Nonce
+type_of (Notify b) = type_number type.Notify
+type_of (Delete b) = type_number type.Delete
+type_of (TsInitiator b) = type_number type.TsInitiator
+type_of (TsResponder b) = type_number type.TsResponder
 
 -- the octets behind its four opening octets
 abbrev pub body_of : Payload → List ℕ
@@ -41,11 +42,11 @@ split_off p = record { body = body_of p.0; next = p.1.kind; rest = p.1.octets.no
 -- the type that a number stands for
 abbrev pub type_in : ℕ → Option PayloadType
 type_in k =
-    cond (k == 33) (Some type.Sa)
-    (cond (k == 40) (Some type.Nonce)
-    (cond (k == 41) (Some type.Notify)
-    (cond (k == 42) (Some type.Delete)
-    (cond (k == 44) (Some type.TsInitiator) (cond (k == 45) (Some type.TsResponder) None)))))
+    cond (k == type_number type.Sa) (Some type.Sa)
+    (cond (k == type_number type.Nonce) (Some type.Nonce)
+    (cond (k == type_number type.Notify) (Some type.Notify)
+    (cond (k == type_number type.Delete) (Some type.Delete)
+    (cond (k == type_number type.TsInitiator) (Some type.TsInitiator) (cond (k == type_number type.TsResponder) (Some type.TsResponder) None)))))
 
 -- whether there is a payload of this type
 abbrev pub known : ℕ → Bool

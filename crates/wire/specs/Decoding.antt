@@ -3,6 +3,7 @@ use Rattle.std.specs.Prelude.{ℕ, ◌-◌, Bool, cond, ◌&&◌, List, [], ◌�
 use Rattle.std.specs.Str.{bytes_eq}
 use Rattle.octets.specs.Numbers.{half, word, long}
 use Rattle.nonce.specs.Nonces.{nonce_long}
+use Rattle.wire.specs.Messages.{exchange_number}
 use Rattle.wire.specs.Payloads.{ts_body, sa_in, rekeyed_in, deleted_in, failure_in}
 use Rattle.wire.specs.declared.message.Message.{Message}
 use Rattle.wire.specs.declared.message.Body.{Body}
@@ -32,7 +33,7 @@ abbrev pub version_known : ℕ → Bool
 version_known v = v == 0x20
 
 abbrev pub exchange_in : ℕ → Option Exchange
-exchange_in x = cond (x == 36) (Some CreateChildSa) (cond (x == 37) (Some Informational) None)
+exchange_in x = cond (x == exchange_number CreateChildSa) (Some CreateChildSa) (cond (x == exchange_number Informational) (Some Informational) None)
 
 abbrev pub flags : Side → Direction → Flags
 flags s d = record { sender = s; direction = d }

@@ -102,18 +102,18 @@ abbrev pub exchange_number : Exchange → ℕ
 exchange_number CreateChildSa = 36
 exchange_number Informational = 37
 
--- the exchange: 36 CREATE_CHILD_SA, 37 INFORMATIONAL
+-- the exchange that a request and a response belong to
 abbrev pub request_exchange : Request (List ℕ) → ℕ
-request_exchange (request.Create spi nonce) = 36
-request_exchange (request.Rekey old spi nonce) = 36
-request_exchange (request.Delete spi) = 37
-request_exchange request.Empty = 37
+request_exchange (request.Create spi nonce) = exchange_number CreateChildSa
+request_exchange (request.Rekey old spi nonce) = exchange_number CreateChildSa
+request_exchange (request.Delete spi) = exchange_number Informational
+request_exchange request.Empty = exchange_number Informational
 
 abbrev pub response_exchange : Response (List ℕ) → ℕ
-response_exchange (response.NewSa spi nonce) = 36
-response_exchange (response.Failed e) = 36
-response_exchange (response.Delete spi) = 37
-response_exchange response.Empty = 37
+response_exchange (response.NewSa spi nonce) = exchange_number CreateChildSa
+response_exchange (response.Failed e) = exchange_number CreateChildSa
+response_exchange (response.Delete spi) = exchange_number Informational
+response_exchange response.Empty = exchange_number Informational
 
 abbrev pub exchange_of : Body (List ℕ) → ℕ
 exchange_of (body.Request r) = request_exchange r
