@@ -1,2 +1,4 @@
+mod Eights
+mod Tails
 pub mod Losing
 pub mod Padded

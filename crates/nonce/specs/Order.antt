@@ -15,6 +15,12 @@ lower_than [] (y ∷ ys) = true
 lower_than (x ∷ xs) [] = false
 lower_than [] [] = false
 
+-- Whether, where two rows of octets first differ, the first has the lower octet; where they nowhere differ, e.
+abbrev pub lower_or : List ℕ → List ℕ → Bool → Bool
+lower_or (x ∷ xs) (y ∷ ys) e = cond (x == y) (lower_or xs ys e) (nat_lt x y)
+lower_or [] ys e = e
+lower_or (x ∷ xs) [] e = e
+
 -- the lower of two; of equal ones, the first
 abbrev pub lower_of : List ℕ → List ℕ → List ℕ
 lower_of xs ys = cond (lower_than ys xs) ys xs
@@ -35,7 +41,7 @@ loser_by InitiatorOfB = B
 loser_by ResponderOfB = B
 
 abbrev pub named : Named → Lowest × List ℕ
-named n = (n.name, n.octets.now)
+named n = (n.name, n.nonce.now)
 
 -- which of the nonces of two exchanges is the lowest
 abbrev pub lowest_in : Exchanged → Exchanged → Lowest

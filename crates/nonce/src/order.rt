@@ -23,5 +23,5 @@ pub enum Lowest {
 #[derive(Clone, Copy)]
 struct Named<'a> {
     name: Lowest,
-    octets: &'a [u8],
+    nonce: &'a Nonce,
 }

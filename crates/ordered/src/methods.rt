@@ -24,13 +24,17 @@ impl OrderedBook {
     }
 
     /// The place of the row of an own SPI, or else the place for a new one.
+    // so many rows are below it: of 16, counting over all is quicker than a search that branches on each step
     fn place(&self, own: u32) -> Result<usize, usize>
         ensures value { result ≡ ok_or (index_of (ordered_rows self.now) own) (room (ordered_rows self.now) own) }
         ensures within { IsSearchInRange result (length (ordered_rows self.now)) }
     {
-        self.rows
-            .as_slice()
-            .binary_search_by_key(&own, |row| row.own)
+        let rows = self.rows.as_slice();
+        let below = rows.iter().filter(|row| row.own < own).count();
+        match rows.get(below) {
+            Some(row) if row.own == own => Ok(below),
+            _ => Err(below),
+        }
     }
 
     /// The place of the row of an own SPI. Refused where there is none.

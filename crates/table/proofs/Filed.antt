@@ -1,15 +1,16 @@
 -- What a place that was found says of the rows, and the rows after each change of a slot.
-use Rattle.std.proofs.Common.{◌≡◌, ℕ, zero, suc, ◌<◌, ◌≤◌, true, false, [], ◌∷◌, length, get_or, set, is_some, Some, None, Ok, Err, Option, sym, refl, ap, ◌∙◌, arith}
+use Rattle.std.proofs.Common.{◌≡◌, ℕ, zero, suc, ◌+◌, ◌<◌, ◌≤◌, true, false, [], ◌∷◌, length, get_or, set, is_some, Some, None, Ok, Err, Option, sym, refl, ap, ◌∙◌, arith}
 use Rattle.std.specs.Option.{ok_or}
 use Rattle.book.specs.declared.row.Row.{Row}
 use Rattle.book.specs.declared.BookRefusal.{BookRefusal}
 use Rattle.book.specs.declared.BookRefusal.TheVariants.{Full, Absent}
 use Rattle.book.specs.Shelves.{Shelf, Answer, has, row_or, put_in, written_in, removed_from, read_in}
 use Rattle.book.proofs.Changes.{put_full, put_made, write_made, remove_made, ok_is, err_is}
-use Rattle.table.specs.Slots.{Slots, sorted_rows, used, seek, apart, place_of, free_from, home}
+use Rattle.table.specs.Slots.{Slots, sorted_rows, used, seek, apart, place_of, free_from, home, astray, strays_from}
 use Rattle.table.specs.Seeking.{none_from, apart_parts}
 use Rattle.table.specs.Sorting.{lookup_sorted, has_sorted, length_sorted, used_some, used_within, seek_slot, sorted_put, sorted_write, sorted_remove}
 use Rattle.table.proofs.Placing.{place_holds, place_none, free_is, full}
+use Rattle.table.proofs.Strays.{strays_put, strays_out, strays_over}
 
 -- the slots as a book, and a change that leaves these slots apart
 abbrev shelf : Slots → Shelf
@@ -81,3 +82,19 @@ filed_out e s k i a h =
     let p = place_holds s k i (ok_is _ e i h) in
     let c = sorted_remove s i p.0 k a p.3 p.1 p.2 in
     (c.0, remove_made (shelf s) k (sorted_rows (set s i None)) (there e s k i a h) c.1)
+
+-- how many rows are astray after each change
+pub strayed_in :
+    {E : Type 0} (e : E) (s : Slots) (x : Row) (f : Option ℕ) (i : ℕ) → length s ≡ 16 → f ≡ free_from s (home x.own) 16 → Ok i ≡ ok_or f e → i < 16 →
+    strays_from 0 (set s i (Some x)) ≡ strays_from 0 s + astray x.own i
+strayed_in e s x f i m g h b = strays_put s i x (omega arith) (free_is s (home x.own) 16 i (ok_is f e i h ∙ g))
+
+pub strayed_over :
+    {E : Type 0} (e : E) (s : Slots) (x : Row) (i : ℕ) → Ok i ≡ ok_or (place_of s x.own) e → strays_from 0 (set s i (Some x)) ≡ strays_from 0 s
+strayed_over e s x i h = let p = place_holds s x.own i (ok_is _ e i h) in strays_over s i p.0 x p.3 p.1 p.2
+
+pub strayed_out :
+    {E : Type 0} (e : E) (s : Slots) (k i : ℕ) → Ok i ≡ ok_or (place_of s k) e → strays_from 0 (set s i None) + astray k i ≡ strays_from 0 s
+strayed_out e s k i h =
+    let p = place_holds s k i (ok_is _ e i h) in
+    omega (arith, strays_out s i p.0 p.3 p.1, ap (λ n. astray n i) p.2)

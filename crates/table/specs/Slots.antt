@@ -43,6 +43,19 @@ home k = k % 16
 abbrev pub place_of : Slots → ℕ → Option ℕ
 place_of s k = cond (holds (slice_index_or s (home k) None) k) (Some (home k)) (place_in s k)
 
+-- 1 where a row of an own SPI is in another place than its hashed one, and of all slots: how many rows are
+abbrev pub astray : ℕ → ℕ → ℕ
+astray k i = cond (home k == i) 0 1
+
+abbrev pub stray_in : ℕ → Option Row → ℕ
+stray_in i None = 0
+stray_in i (Some r) = astray r.own i
+
+-- of the slots from place i on
+abbrev pub strays_from : ℕ → Slots → ℕ
+strays_from i [] = 0
+strays_from i (o ∷ s) = stray_in i o + strays_from (i + 1) s
+
 -- the first free one of n places from i on, going on at the front
 unfoldable pub free_from : Slots → ℕ → ℕ → Option ℕ
 free_from s i zero = None

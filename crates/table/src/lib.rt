@@ -2,7 +2,7 @@
 #![tactic(auto)]
 
 ghost use Rattle.std.specs.Prelude.{◌≡◌, true, length};
-ghost use Rattle.table.specs.Slots.{apart};
+ghost use Rattle.table.specs.Slots.{apart, strays_from};
 
 use book::row::Row;
 
@@ -18,6 +18,9 @@ const CAPACITY: usize = 16;
 #[derive(Drop)]
 pub struct TableBook {
     slots: [Option<Row>; CAPACITY],
+    /// How many rows stand in another place than their hashed one.
+    strays: usize,
     ghost long: { length slots ≡ 16 },
     ghost ok: { apart slots ≡ true },
+    ghost counted: { strays ≡ strays_from 0 slots },
 }

@@ -7,7 +7,7 @@ ghost use Rattle.book.specs.declared.row.Row.{Row};
 ghost use Rattle.table.specs.Slots.{home, holds, place_of, free_from, used, lowest};
 ghost use Rattle.table.specs.Shelved.{shelved, table_orderly};
 
-use crate::slots::{holds, home, scan};
+use crate::slots::{astray, holds, home, scan};
 use crate::{CAPACITY, TableBook};
 use book::row::Row;
 use book::{Book, BookRefusal};
@@ -19,6 +19,7 @@ impl TableBook {
     {
         TableBook {
             slots: [None; CAPACITY],
+            strays: 0,
         }
     }
 
@@ -30,13 +31,16 @@ impl TableBook {
     }
 
     /// The place of the row of an own SPI. One that stands in its hashed place is found there at the first look, and
-    /// another by a scan.
+    /// another by a scan, where there are such.
     fn place(&self, own: u32) -> Option<usize>
         ensures value { result ≡ place_of self.now.slots own }
         ensures within { IfSome result (λ i. i < 16) }
     {
         if self.at_home(own) {
             return Some(home(own));
+        }
+        if self.strays == 0 {
+            return None;
         }
         scan(&self.slots, own)
     }
@@ -104,6 +108,7 @@ impl Book for TableBook {
             return Err(BookRefusal::Present);
         }
         let free = self.free_place(row.own).ok_or(BookRefusal::Full)?;
+        self.strays += astray(row.own, free);
         self.slots[free] = Some(row);
         Ok(())
     }
@@ -121,6 +126,7 @@ impl Book for TableBook {
 
     fn remove(&mut self, own: u32) -> Result<(), BookRefusal> {
         let i = self.held(own)?;
+        self.strays -= astray(own, i);
         self.slots[i] = None;
         Ok(())
     }

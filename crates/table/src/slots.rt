@@ -1,6 +1,6 @@
 //! Slots, each of which may hold a row.
 ghost use Rattle.std.specs.Prelude.{◌≡◌, ◌<◌, length, IfSome};
-ghost use Rattle.table.specs.Slots.{home, holds, place_in};
+ghost use Rattle.table.specs.Slots.{home, astray, holds, place_in};
 
 use crate::CAPACITY;
 use book::row::Row;
@@ -10,6 +10,13 @@ pub(crate) fn home(own: u32) -> usize
     ensures { result ≡ home own }
 {
     own as usize % CAPACITY
+}
+
+/// 1 where a row of an own SPI is in another place than its hashed one, and 0 there.
+pub(crate) fn astray(own: u32, place: usize) -> usize
+    ensures { result ≡ astray own place }
+{
+    usize::from(place != home(own))
 }
 
 /// Whether a slot holds the row of an own SPI.

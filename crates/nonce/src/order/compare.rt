@@ -1,29 +1,47 @@
 //! How nonces are compared.
-ghost use Rattle.std.specs.Prelude.{◌≡◌};
-ghost use Rattle.nonce.specs.Order.{lower_than, lower_of, named, lower_named, lowest_in, loser_by, loser_in, LosesIn};
+ghost use Rattle.std.specs.Prelude.{◌≡◌, ◌%◌, length};
+ghost use Rattle.nonce.specs.Order.{lower_than, lower_or, lower_of, named, lower_named, lowest_in, loser_by, loser_in, LosesIn};
 
 use crate::Nonce;
 use crate::order::{Exchanged, Lowest, Named};
 use crate::side::Side;
 
+/// Whether `a` is lower than `b`: the first octets that differ decide, and where none do, `otherwise`.
+// eight octets at a time: as numbers, the most significant octet first, they have the order of the octets
+fn lower_or(a: &[u8], b: &[u8], otherwise: bool) -> bool
+    requires eights_of_a { length a.now % 8 ≡ 0 }
+    requires eights_of_b { length b.now % 8 ≡ 0 }
+    ensures { result ≡ lower_or a.now b.now otherwise }
+{
+    match (a.split_first_chunk::<8>(), b.split_first_chunk::<8>()) {
+        (Some((first, rest)), Some((other, others))) => {
+            let (x, y) = (u64::from_be_bytes(*first), u64::from_be_bytes(*other));
+            if x == y {
+                lower_or(rest, others, otherwise)
+            } else {
+                x < y
+            }
+        }
+        _ => otherwise,
+    }
+}
+
 /// Whether `a` is lower than `b`.
-// `<` in a function of its own: that it means the order of the definitions is shown once, here
-fn precedes(a: &[u8], b: &[u8]) -> bool
+// The octets behind a length are zero, and no octet is lower than zero: so all 32 decide, and then the lengths.
+fn precedes(a: &Nonce, b: &Nonce) -> bool
     ensures { result ≡ lower_than a.now b.now }
 {
-    a < b
+    lower_or(&a.octets, &b.octets, a.len < b.len)
 }
 
 /// The octets of the lower of two nonces; of equal ones, of the first.
 pub fn lower<'a>(a: &'a Nonce, b: &'a Nonce) -> &'a [u8]
     ensures { result.now ≡ lower_of a.now b.now }
 {
-    let first = a.as_slice();
-    let second = b.as_slice();
-    if precedes(second, first) {
-        second
+    if precedes(b, a) {
+        b.as_slice()
     } else {
-        first
+        a.as_slice()
     }
 }
 
@@ -32,7 +50,7 @@ pub fn lower<'a>(a: &'a Nonce, b: &'a Nonce) -> &'a [u8]
 fn lower_named<'a>(a: Named<'a>, b: Named<'a>) -> Named<'a>
     ensures { named result ≡ lower_named (named a.entry) (named b.entry) }
 {
-    if precedes(b.octets, a.octets) { b } else { a }
+    if precedes(b.nonce, a.nonce) { b } else { a }
 }
 
 /// Which of the four nonces is the lowest; of equal ones, the first.
@@ -42,21 +60,21 @@ fn lowest<'a>(a: &'a Exchanged, b: &'a Exchanged) -> Lowest
     let of_a = lower_named(
         Named {
             name: Lowest::InitiatorOfA,
-            octets: a.initiator.as_slice(),
+            nonce: &a.initiator,
         },
         Named {
             name: Lowest::ResponderOfA,
-            octets: a.responder.as_slice(),
+            nonce: &a.responder,
         },
     );
     let of_b = lower_named(
         Named {
             name: Lowest::InitiatorOfB,
-            octets: b.initiator.as_slice(),
+            nonce: &b.initiator,
         },
         Named {
             name: Lowest::ResponderOfB,
-            octets: b.responder.as_slice(),
+            nonce: &b.responder,
         },
     );
     lower_named(of_a, of_b).name

@@ -1,12 +1,6 @@
-use Rattle.std.proofs.Common.{refl, arith}
-use Rattle.std.specs.Ordering.{is_lt, nat_cmp}
-use Rattle.std.proofs.lemmas.Cmp.{same_from_slice_cmp_tested}
-use Rattle.std.proofs.lemmas.Bool.Decides.{nat_tests}
-use Rattle.nonce.specs.Order.{lower_than}
+use Rattle.std.proofs.Common.{◌∙◌}
+use Rattle.nonce.proofs.Tails.{whole}
 use Rattle.nonce.proofs.order.compare.precedes.Goals as goal
 
 pub returns : goal.returns
-returns c =
-    same_from_slice_cmp_tested nat_cmp is_lt lower_than refl (λ _ _. refl) (λ _ _. refl)
-    (λ x y xs ys o h. grind (arith, nat_tests))
-    c.args.a.now c.args.b.now _ c.lt.ensures
+returns c = c.lower_or.ensures ∙ whole c.a.inside c.b.inside _ _ c.a.invariant c.b.invariant c.a.view_is c.b.view_is
