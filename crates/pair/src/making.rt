@@ -16,10 +16,10 @@ use nonce::side::Side;
 /// No ends were made, for this reason; the books and the channel are given back.
 #[derive(Drop)]
 pub struct Unmade<P, Q, C> {
-    pub refusal: MakingRefusal,
+    pub channel: C,
     pub a: P,
     pub b: Q,
-    pub channel: C,
+    pub refusal: MakingRefusal,
 }
 
 impl<P: Book, Q: Book, C: Channel> Pair<P, Q, C> {
