@@ -37,18 +37,22 @@ impl<P: Book, Q: Book, C: Channel> Pair<P, Q, C> {
                 channel,
             });
         }
-        match Endpoint::new(making, Side::A, a) {
-            Err(UnmadeEnd { refusal, book }) => Err(Unmade {
-                refusal,
-                a: book,
-                b,
-                channel,
-            }),
-            Ok(a) => match Endpoint::new(making, Side::B, b) {
-                Ok(b) => Ok(Pair { a, b, channel }),
-                // what is wrong with the numbers was told of A, and the book is empty
-                Err(_) => unreachable!(),
-            },
-        }
+        let a = match Endpoint::new(making, Side::A, a) {
+            Ok(a) => a,
+            Err(UnmadeEnd { refusal, book }) => {
+                return Err(Unmade {
+                    refusal,
+                    a: book,
+                    b,
+                    channel,
+                });
+            }
+        };
+        let b = match Endpoint::new(making, Side::B, b) {
+            Ok(b) => b,
+            // what is wrong with the numbers was told of A, and the book is empty
+            Err(_) => unreachable!(),
+        };
+        Ok(Pair { a, b, channel })
     }
 }
