@@ -1,9 +1,7 @@
 -- What two ends and their channel are, and how they are made.
-use Rattle.std.specs.Prelude.{ℕ, Bool, cond, ◌&&◌, List, length, Some, None, Ok, Err, Option, Result, ◌==◌}
-use Rattle.nonce.specs.declared.side.Side.{Side}
+use Rattle.std.specs.Prelude.{Bool, cond, ◌&&◌, length, Some, None, Option, Result, ◌==◌}
 use Rattle.nonce.specs.declared.side.Side.TheVariants.{A, B}
 use Rattle.book.specs.Shelves.{Shelf}
-use Rattle.channel.specs.Meaning.{Meaning}
 use Rattle.calls.specs.declared.making.Making.{Making}
 use Rattle.calls.specs.declared.refusals.MakingRefusal.{MakingRefusal}
 use Rattle.calls.specs.declared.refusals.MakingRefusal.TheVariants.{ReservedSpi, BookNotEmpty}

@@ -29,6 +29,7 @@ impl<P: Book, Q: Book, C: Channel> Pair<P, Q, C> {
         ensures back { IfErr result (λ u. (u.a ≡ a) × (u.b ≡ b) × (u.channel ≡ channel)) }
         ensures start { IfOk result (λ p. Clean C.Channel.meaning channel → Start C.Channel.meaning (world p)) }
     {
+        // refusals leave early: on the one way that is left, channel and books are moved least
         if b.len() != 0 {
             return Err(Unmade {
                 refusal: MakingRefusal::BookNotEmpty,
