@@ -1,7 +1,6 @@
 -- The sizes in the lanes after a change.
-use Rattle.std.proofs.Common.{◌≡◌, ℕ, true, List, [], ◌∷◌, ◌++◌, map, Some, None, Option, Ok, Err, Result}
+use Rattle.std.proofs.Common.{◌≡◌, ℕ, true, List, [], ◌∷◌, ◌++◌, map, Ok, Err, Result}
 use Rattle.std.specs.List.{remove}
-use Rattle.std.specs.Option.{OnSome, IfNone}
 use Rattle.std.specs.Result.{OnOk, OnErr}
 use Rattle.std.proofs.lemmas.Bool.{and_parts}
 use Rattle.std.proofs.lemmas.List.{map_push}
@@ -19,11 +18,10 @@ pub fit : (l : Lanes) (to : Side) (octets : List ℕ) → admits (store_of l) to
 fit l to octets h = (admitted_parts l.longest (list_at (store_of l) to) octets h).0
 
 -- without the first, if there is one
-pub sizes_popped :
-    (longest : ℕ) (lane x : ArrayVec (ArrayVec ℕ)) (r : Option (ArrayVec ℕ)) → all_sized longest (lane_list lane) ≡ true →
-    OnSome r (x.items ≡ remove lane.items 0) → IfNone r (x ≡ lane) → all_sized longest (lane_list x) ≡ true
-sizes_popped longest lane x None h _ e = rw e h
-sizes_popped longest lane x (Some _) h e _ = rw e (rest lane.items h) where
+pub sizes_rest :
+    (longest : ℕ) (lane x : ArrayVec (ArrayVec ℕ)) → all_sized longest (lane_list lane) ≡ true → x.items ≡ remove lane.items 0 →
+    all_sized longest (lane_list x) ≡ true
+sizes_rest longest lane x h e = rw e (rest lane.items h) where
   rest : (ds : List (ArrayVec ℕ)) → all_sized longest (map octets_of ds) ≡ true → all_sized longest (map octets_of (remove ds 0)) ≡ true
   rest [] h = h
   rest (d ∷ ds) h = (and_parts _ _ h).1

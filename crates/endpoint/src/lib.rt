@@ -23,8 +23,10 @@ mod rows;
 mod sending;
 
 /// An end, with its book.
+// the book first, as in `Unmade`: what stands at one place in an `Ok` and in an `Err` is moved as a whole
 #[derive(Drop)]
 pub struct Endpoint<B: Book> {
+    book: B,
     side: Side,
     /// The IKE SPI of A.
     initiator: u64,
@@ -36,7 +38,6 @@ pub struct Endpoint<B: Book> {
     expected: u64,
     /// The next own SPI; 2^32 where they are spent.
     spi: u64,
-    book: B,
     outstanding: Option<Outstanding>,
     /// The octets of the outstanding request.
     request: Octets,

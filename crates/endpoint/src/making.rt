@@ -13,8 +13,8 @@ use wire::encode::Octets;
 /// No end was made, for this reason; its book is given back.
 #[derive(Drop)]
 pub struct Unmade<B> {
-    pub refusal: MakingRefusal,
     pub book: B,
+    pub refusal: MakingRefusal,
 }
 
 /// Why an end is not made over this book.

@@ -16,10 +16,10 @@ use nonce::side::Side;
 /// No ends were made, for this reason; the books and the channel are given back.
 #[derive(Drop)]
 pub struct Unmade<P, Q, C> {
-    pub refusal: MakingRefusal,
+    pub channel: C,
     pub a: P,
     pub b: Q,
-    pub channel: C,
+    pub refusal: MakingRefusal,
 }
 
 impl<P: Book, Q: Book, C: Channel> Pair<P, Q, C> {
@@ -29,6 +29,7 @@ impl<P: Book, Q: Book, C: Channel> Pair<P, Q, C> {
         ensures back { IfErr result (λ u. (u.a ≡ a) × (u.b ≡ b) × (u.channel ≡ channel)) }
         ensures start { IfOk result (λ p. Clean C.Channel.behaviour channel → Start C.Channel.behaviour (world p)) }
     {
+        // refusals leave early: on the one way that is left, channel and books are moved least
         if b.len() != 0 {
             return Err(Unmade {
                 refusal: MakingRefusal::BookNotEmpty,
@@ -37,18 +38,22 @@ impl<P: Book, Q: Book, C: Channel> Pair<P, Q, C> {
                 channel,
             });
         }
-        match Endpoint::new(making, Side::A, a) {
-            Err(UnmadeEnd { refusal, book }) => Err(Unmade {
-                refusal,
-                a: book,
-                b,
-                channel,
-            }),
-            Ok(a) => match Endpoint::new(making, Side::B, b) {
-                Ok(b) => Ok(Pair { a, b, channel }),
-                // what is wrong with the numbers was told of A, and the book is empty
-                Err(_) => unreachable!(),
-            },
-        }
+        let a = match Endpoint::new(making, Side::A, a) {
+            Ok(a) => a,
+            Err(UnmadeEnd { refusal, book }) => {
+                return Err(Unmade {
+                    refusal,
+                    a: book,
+                    b,
+                    channel,
+                });
+            }
+        };
+        let b = match Endpoint::new(making, Side::B, b) {
+            Ok(b) => b,
+            // what is wrong with the numbers was told of A, and the book is empty
+            Err(_) => unreachable!(),
+        };
+        Ok(Pair { a, b, channel })
     }
 }

@@ -74,8 +74,12 @@ impl Lanes {
         if buffer.len() < self.longest {
             return None;
         }
-        let first = self.lists.at_mut(at).pop_at(0)?;
-        buffer[..first.len()].copy_from_slice(&first);
-        Some(first.len())
+        let lane = self.lists.at_mut(at);
+        // read where it stands, since to take it out would copy its whole place
+        let first = lane.first()?;
+        let len = first.len();
+        buffer[..len].copy_from_slice(first);
+        lane.remove(0);
+        Some(len)
     }
 }
