@@ -1,8 +1,9 @@
 # The program on its example script, and the gate.
 SHELL := /bin/bash
-.PHONY: all run test histories bench
+.PHONY: all run test histories bench figures
 N ?= 1000000
 SEED ?= 1
+RUNS ?= 1
 
 all: run
 
@@ -15,12 +16,16 @@ run:
 histories:
 	@independent/try $(N) $(SEED)
 
-# Times the library's functions beside those of the independent program, on one core; ONLY=WORD takes the lines with that word.
-# It needs cargo, and is no part of the gate. docs/PERFORMANCE.md has the figures.
+# Times the library's functions beside those of the independent program, on one core: RUNS=N runs, and with ONLY=WORD the lines that have
+# this word. It needs cargo, and is no part of the gate.
 bench:
 	@log=$$(mktemp); (cd crates/benched && rt lib) > $$log 2>&1 < /dev/null || { cat $$log; rm -f $$log; exit 1; }; rm -f $$log
 	@cd bench && RATTLE_C=$$(dirname "$$(readlink -f "$$(command -v rt)")")/../c cargo build --quiet --release --offline
-	@taskset -c $$(( $$(nproc) - 1 )) bench/target/release/bench $(ONLY)
+	@taskset -c $$(( $$(nproc) - 1 )) bench/target/release/bench $(RUNS) $(ONLY)
+
+# The figures of docs/PERFORMANCE.md, as they stand there: the machine, and four runs.
+figures:
+	@tools/figures
 
 # The whole gate: everything proved, the must-fail edits, the programs' output, the tests; then, with the program that this built, the
 # scripts of examples/ with the output that is stored beside each, and some histories against the independent program; the

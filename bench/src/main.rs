@@ -11,22 +11,47 @@ use std::time::Instant;
 
 use rattle::NoncePair;
 
+/// How often each side of a line is timed in one run.
 const REPEATS: usize = 15;
 
 /// A repeat of one side takes at least about so long.
 const LEAST_NANOSECONDS: f64 = 4e6;
 
-/// The nanoseconds of one time, at the least, in the middle and at the most.
-struct Spread {
-    least: f64,
-    middle: f64,
-    most: f64,
+/// The nanoseconds of one time on both sides, of every repeat of every run, and the ratio of each run: Rust's least by Rattle's.
+#[derive(Default)]
+struct Line {
+    name: String,
+    rattle: Vec<f64>,
+    rust: Vec<f64>,
+    ratios: Vec<f64>,
 }
 
-impl Spread {
-    fn of(mut each: Vec<f64>) -> Spread {
-        each.sort_by(f64::total_cmp);
-        Spread { least: each[0], middle: each[each.len() / 2], most: each[each.len() - 1] }
+fn least(each: &[f64]) -> f64 {
+    each.iter().copied().fold(f64::INFINITY, f64::min)
+}
+
+fn most(each: &[f64]) -> f64 {
+    each.iter().copied().fold(0.0, f64::max)
+}
+
+/// At the least, in the middle and at the most.
+fn spread(each: &[f64]) -> [f64; 3] {
+    let mut sorted = each.to_vec();
+    sorted.sort_by(f64::total_cmp);
+    [sorted[0], sorted[sorted.len() / 2], sorted[sorted.len() - 1]]
+}
+
+impl Line {
+    fn ratio(&self) -> f64 {
+        least(&self.rust) / least(&self.rattle)
+    }
+
+    fn print(&self) {
+        print!("    {:<32}", self.name);
+        for number in spread(&self.rattle).into_iter().chain(spread(&self.rust)) {
+            print!(" {number:>8.1}");
+        }
+        println!("  {:>6.2} {:>6.2} {:>6.2}", self.ratio(), least(&self.ratios), most(&self.ratios));
     }
 }
 
@@ -45,17 +70,28 @@ fn times_of(run: &mut dyn FnMut(u32) -> u64) -> u32 {
     times
 }
 
+/// All lines, of so many runs.
+#[derive(Default)]
 struct Bench {
-    wanted: Option<String>,
+    wanted: String,
+    is_last_run: bool,
     disagree: bool,
-    slower: usize,
-    lines: usize,
+    lines: Vec<Line>,
 }
 
 impl Bench {
-    /// Prints one line. The two sides take turns, so that what else runs on the machine meets both.
+    /// The place of the line of this name.
+    fn place(&mut self, name: &str) -> usize {
+        let there = self.lines.iter().position(|line| line.name == name);
+        there.unwrap_or_else(|| {
+            self.lines.push(Line { name: name.to_owned(), ..Line::default() });
+            self.lines.len() - 1
+        })
+    }
+
+    /// Times one line, and prints it in the last run. The two sides take turns, so that what else runs on the machine meets both.
     fn line(&mut self, name: &str, rattle: &mut dyn FnMut(u32) -> u64, rust: &mut dyn FnMut(u32) -> u64) {
-        if self.wanted.as_ref().is_some_and(|wanted| !name.contains(wanted.as_str())) {
+        if !name.contains(&self.wanted) {
             return;
         }
         let times = times_of(rattle).max(times_of(rust));
@@ -71,14 +107,14 @@ impl Bench {
             of_rattle.push(nanoseconds_of_rattle / f64::from(times));
             of_rust.push(nanoseconds_of_rust / f64::from(times));
         }
-        let (rattle, rust) = (Spread::of(of_rattle), Spread::of(of_rust));
-        let ratio = rust.least / rattle.least;
-        self.lines += 1;
-        self.slower += usize::from(ratio < 1.0);
-        println!(
-            "{name:<34} {:>9.1} {:>9.1} {:>9.1}   {:>9.1} {:>9.1} {:>9.1}   {ratio:>6.2}",
-            rattle.least, rattle.middle, rattle.most, rust.least, rust.middle, rust.most
-        );
+        let place = self.place(name);
+        let line = &mut self.lines[place];
+        line.ratios.push(least(&of_rust) / least(&of_rattle));
+        line.rattle.append(&mut of_rattle);
+        line.rust.append(&mut of_rust);
+        if self.is_last_run {
+            self.lines[place].print();
+        }
     }
 
     fn messages(&mut self, nonce: &[u8]) {
@@ -193,17 +229,31 @@ fn four_pairs(alike: usize) -> [NoncePair; 4] {
     [(); 4].map(|()| NoncePair { initiator: nonce(), responder: nonce() })
 }
 
+/// How many runs there are to be, and a word that the lines are to have.
+fn asked() -> (usize, String) {
+    let mut words = env::args().skip(1);
+    let runs = words.next().and_then(|runs| runs.parse().ok()).unwrap_or(1);
+    (runs, words.next().unwrap_or_default())
+}
+
 fn main() -> ExitCode {
-    let mut bench = Bench { wanted: env::args().nth(1), disagree: false, slower: 0, lines: 0 };
-    println!(
-        "nanoseconds of one, at the least, in the middle and at the most of {REPEATS} repeats; the ratio is Rust's least by Rattle's"
-    );
-    println!("{:<34} {:>9} {:>9} {:>9}   {:>9} {:>9} {:>9}   {:>6}", "", "Rattle", "", "", "Rust", "", "", "ratio");
+    let (runs, wanted) = asked();
+    let mut bench = Bench { wanted, ..Bench::default() };
     let (low, high) = ([0x11; 32], [0x77; 32]);
-    bench.messages(&high);
-    bench.nonces();
-    bench.books(&high);
-    bench.pairs(&low, &high);
-    println!("{} lines, {} with a ratio below 1.00", bench.lines, bench.slower);
+    println!("    {:<32}  {:<26} {:<26}  ratio", "", "Rattle", "Rust");
+    println!(
+        "    {:<32}{} {} {:>7} {:>6} {:>6}",
+        "", "    least   middle     most", "   least   middle     most", "", "lowest", "highest"
+    );
+    for run in 1..=runs {
+        bench.is_last_run = run == runs;
+        bench.messages(&high);
+        bench.nonces();
+        bench.books(&high);
+        bench.pairs(&low, &high);
+    }
+    let lines = bench.lines.len();
+    let fast = bench.lines.iter().filter(|line| line.ratio() >= 1.0).count();
+    println!("\n{fast} of {lines} lines are at 1.00 or more.");
     if bench.disagree { ExitCode::FAILURE } else { ExitCode::SUCCESS }
 }
