@@ -4,7 +4,8 @@ use Rattle.std.proofs.Common.{sym, ap, subst, ◌∙◌, inl, inr, ⊎_elim, ari
 use Rattle.std.proofs.lemmas.List.{length-map, nil_from_length}
 use Rattle.std.proofs.lemmas.Bool.{both_ways, cases_Bool, cond-true, cond-false}
 use Rattle.nonce.specs.declared.side.Side.{Side}
-use Rattle.channel.specs.Meaning.{Meaning, Sound, Within, other}
+use Rattle.nonce.specs.Sides.{other}
+use Rattle.channel.specs.Meaning.{Meaning, Sound, Within}
 use Rattle.channel.specs.Effects.{SentAs, Removed, ReceivedAs}
 use Rattle.channel.specs.Marks.{mark, is_marked, all_marked, marked, passed, Unmarks}
 use Rattle.channel.specs.declared.sent.Sent.{Sent}

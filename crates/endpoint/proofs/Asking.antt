@@ -1,7 +1,7 @@
 -- An ask that has begun is done when its request has been sent.
 use Rattle.std.proofs.Common.{◌≡◌, Some, None, Ok, Err, Option, refl, ap}
+use Rattle.nonce.specs.Sides.{other}
 use Rattle.channel.specs.Behaviour.{Behaviour, Sends}
-use Rattle.channel.specs.Meaning.{other}
 use Rattle.channel.specs.declared.sent.Sent.{Sent}
 use Rattle.calls.specs.declared.refusals.AskRefusal.{AskRefusal}
 use Rattle.law.specs.Ends.{End, Outstanding}

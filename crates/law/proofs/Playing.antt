@@ -4,8 +4,9 @@ use Rattle.std.proofs.lemmas.Bool.{leb-true}
 use Rattle.nonce.specs.Nonces.{nonce_long}
 use Rattle.nonce.specs.declared.side.Side.{Side}
 use Rattle.nonce.specs.declared.side.Side.TheVariants.{A, B}
+use Rattle.nonce.specs.Sides.{other}
 use Rattle.channel.specs.Behaviour.{Behaviour, Sends}
-use Rattle.channel.specs.Meaning.{Meaning, In, Within, other}
+use Rattle.channel.specs.Meaning.{Meaning, In, Within}
 use Rattle.channel.specs.declared.sent.Sent.{Sent}
 use Rattle.channel.specs.declared.sent.Sent.TheVariants.{Taken, NotTaken}
 use Rattle.calls.specs.declared.answers.Answer.{Answer}

@@ -2,8 +2,8 @@
 use Rattle.std.proofs.Common.{◌≡◌, ℕ, not, List, Some, None, Option, refl, subst}
 use Rattle.nonce.specs.declared.side.Side.{Side}
 use Rattle.nonce.specs.declared.side.Side.TheVariants.{A, B}
+use Rattle.nonce.specs.Sides.{other}
 use Rattle.channel.specs.Behaviour.{Behaviour, Sends}
-use Rattle.channel.specs.Meaning.{other}
 use Rattle.channel.specs.declared.sent.Sent.{Sent as Taking}
 use Rattle.wire.specs.declared.message.Message.{Message}
 use Rattle.wire.specs.declared.message.Request.{Request}

@@ -3,12 +3,13 @@ use Rattle.std.specs.Prelude.{◌≡◌, ℕ, zero, suc, ◌≤◌, Bool, true, 
 use Rattle.nonce.specs.Order.{lowest_of, loser_by}
 use Rattle.nonce.specs.declared.side.Side.{Side}
 use Rattle.nonce.specs.declared.side.Side.TheVariants.{A, B}
+use Rattle.nonce.specs.Sides.{other}
 use Rattle.book.specs.Rows.{kept_octets, mirrors}
 use Rattle.book.specs.Shelves.{lookup}
 use Rattle.book.specs.declared.row.Beginner.TheVariants.{Peer}
 use Rattle.book.specs.declared.row.Row.{Row}
 use Rattle.channel.specs.Behaviour.{Behaviour}
-use Rattle.channel.specs.Meaning.{Meaning, other}
+use Rattle.channel.specs.Meaning.{Meaning}
 use Rattle.calls.specs.declared.moves.Call.{Call}
 use Rattle.calls.specs.declared.moves.Call.TheVariants.{Create, Rekey, Delete, Check, Resend, Deliver}
 use Rattle.calls.specs.declared.moves.Move.{Move}

@@ -2,8 +2,8 @@
 use Rattle.std.specs.Prelude.{◌≡◌, ℕ, ◌^◌, ◌<◌, ◌≤◌, ◌⊎◌, List, [], ◌∷◌}
 use Rattle.nonce.specs.declared.side.Side.{Side}
 use Rattle.nonce.specs.declared.side.Side.TheVariants.{A, B}
+use Rattle.nonce.specs.Sides.{other}
 use Rattle.channel.specs.Behaviour.{Behaviour}
-use Rattle.channel.specs.Meaning.{other}
 use Rattle.calls.specs.declared.moves.Call.{Call}
 use Rattle.calls.specs.declared.moves.Call.TheVariants.{Create, Rekey, Delete, Check, Resend, Deliver}
 use Rattle.calls.specs.declared.moves.Move.{Move}

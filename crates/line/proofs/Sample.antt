@@ -11,7 +11,8 @@ use Rattle.protocol.specs.Model.{Nonce, Sa, mirror, lose, Ask, live, standing}
 use Rattle.protocol.specs.Node.{Bar, no_more, sense, Out, idle, asked, Node}
 use Rattle.nonce.specs.declared.side.Side.{Side}
 use Rattle.nonce.specs.declared.side.Side.TheVariants.{A, B}
-use Rattle.channel.specs.Meaning.{other, Meaning, In, Sound, Without}
+use Rattle.nonce.specs.Sides.{other}
+use Rattle.channel.specs.Meaning.{Meaning, In, Sound, Without}
 use Rattle.line.specs.Meaning.{Same, Sent, Got}
 use Rattle.line.specs.Calls.{Want, to_create, to_rekey, to_delete, to_check, ask, settle, taken_as, wire, answer_wire, Msg, request, response, Coding, Allowed}
 use Rattle.line.specs.World.{Call, asking, resend, deliver, Answer, did, again, stopped, nothing, unused, Did, refuses, asks, resends, gets_none, ignores, repeats, answers, settles, follows, World, Move, Run, made_end, Start}

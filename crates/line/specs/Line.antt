@@ -6,7 +6,7 @@ use Rattle.protocol.specs.Model.{Nonce, Ask, create, rekey, delete, check, Reply
 use Rattle.protocol.specs.Rows.{ordered}
 use Rattle.protocol.specs.Node.{stored, Out, idle, asked, Node, InStep}
 use Rattle.nonce.specs.declared.side.Side.{Side}
-use Rattle.channel.specs.Meaning.{other}
+use Rattle.nonce.specs.Sides.{other}
 use Rattle.line.specs.Calls.{wire, Msg, request, response, GoodReply, Coding, Good}
 
 -- the outstanding request is the one with this ID and these words

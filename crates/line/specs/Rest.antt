@@ -7,7 +7,8 @@ use Rattle.protocol.specs.Model.{Nonce, Link, quiet, sent, answered}
 use Rattle.protocol.specs.Node.{Out, idle, asked, Node, link_of}
 use Rattle.nonce.specs.declared.side.Side.{Side}
 use Rattle.nonce.specs.declared.side.Side.TheVariants.{A, B}
-use Rattle.channel.specs.Meaning.{other, Meaning}
+use Rattle.nonce.specs.Sides.{other}
+use Rattle.channel.specs.Meaning.{Meaning}
 use Rattle.line.specs.Calls.{wire, Msg, request, response, Coding, Good}
 use Rattle.line.specs.World.{Call, asking, resend, deliver, Answer, did, again, stopped, nothing, unused, Move}
 

@@ -6,7 +6,8 @@ use Rattle.protocol.specs.Model.{Nonce, Ask}
 use Rattle.protocol.specs.Node.{Bar, sense, Out, idle, asked, Node}
 use Rattle.nonce.specs.declared.side.Side.{Side}
 use Rattle.nonce.specs.declared.side.Side.TheVariants.{A, B}
-use Rattle.channel.specs.Meaning.{other, Meaning}
+use Rattle.nonce.specs.Sides.{other}
+use Rattle.channel.specs.Meaning.{Meaning}
 use Rattle.line.specs.Meaning.{Same, Sent, Got}
 use Rattle.line.specs.Calls.{Want, Allowed, ask, settle, taken_as, wire, answer_wire, Msg, request, response, Coding}
 

@@ -3,3 +3,4 @@ pub mod Kept
 pub mod Nonces
 pub mod Order
 pub mod Names
+pub mod Sides
