@@ -3,7 +3,7 @@ use Rattle.std.proofs.Common.{◌≡◌, ℕ, ◌^◌, ◌<◌, ◌≤◌, Bool,
 use Rattle.std.proofs.lemmas.Bool.{ne_eqb, eq-eqb, not-true, not_from_false, true≢false}
 use Rattle.nonce.specs.declared.side.Side.{Side}
 use Rattle.nonce.specs.declared.side.Side.TheVariants.{A, B}
-use Rattle.nonce.specs.Sides.{other}
+use Rattle.nonce.specs.Sides.{other, is_side}
 use Rattle.book.specs.Rows.{is_opening, kept_octets, nr_octets, mirrors, Mirror}
 use Rattle.book.specs.Shelves as shelf
 use Rattle.book.proofs.Lookups.{lookup_own}
@@ -27,7 +27,6 @@ use Rattle.calls.specs.declared.refusals.DeliverRefusal.TheVariants as refusal
 use Rattle.protocol.specs.Invariant as invariant
 use Rattle.protocol.specs.Law.{SameIn}
 use Rattle.protocol.specs.Model.{St, Sa, Cell, live, mirror, lose}
-use Rattle.protocol.specs.Model as model
 use Rattle.protocol.specs.Node.{Out, idle, asked}
 use Rattle.protocol.specs.Rows.{lookup}
 use Rattle.line.specs.Calls.{Coding}
@@ -111,13 +110,13 @@ heir_of r h = not_from_false _ (ne_eqb r.parent.own 0 h)
 rekeys_of : (r : Row) → is_heir r ≡ true → Rekeys r
 rekeys_of r h e = true≢false (sym (eq-eqb r.parent.own 0 e) ∙ not-true _ h)
 
-side_is : (x s : Side) → model.is_side x s ≡ true → x ≡ s
+side_is : (x s : Side) → is_side x s ≡ true → x ≡ s
 side_is A A h = refl
 side_is A B h = let z : ◌≡◌ {A = ℕ} 0 1 = cc in absurd (omega arith)
 side_is B A h = let z : ◌≡◌ {A = ℕ} 0 1 = cc in absurd (omega arith)
 side_is B B h = refl
 
-is_same : (x s : Side) → x ≡ s → model.is_side x s ≡ true
+is_same : (x s : Side) → x ≡ s → is_side x s ≡ true
 is_same A A h = refl
 is_same A B h = let z : ◌≡◌ {A = ℕ} 0 1 = cc in absurd (omega arith)
 is_same B A h = let z : ◌≡◌ {A = ℕ} 0 1 = cc in absurd (omega arith)

@@ -3,9 +3,9 @@ use Rattle.std.proofs.Common.{◌≡◌, ℕ, Bool, true, false, cond, ◌||◌,
 use Rattle.std.proofs.lemmas.Bool.{both_ways, cond_both, cond-true, cond-false, eq-eqb, ne_eqb}
 use Rattle.std.proofs.lemmas.Bool.Decides.{nat_tests}
 use Rattle.nonce.specs.Nonces.{nonce_long}
-use Rattle.nonce.specs.Order.{lowest_of, loser_by}
 use Rattle.nonce.specs.declared.side.Side.{Side}
 use Rattle.nonce.specs.declared.side.Side.TheVariants.{A, B}
+use Rattle.nonce.specs.Sides.{is_side}
 use Rattle.book.specs.Rows.{is_opening, kept_octets}
 use Rattle.book.specs.Shelves as shelf
 use Rattle.book.specs.Shelves.{Shelf, Rising, has}
@@ -104,17 +104,11 @@ counted_fine rs (response.Delete k) h = tt
 counted_fine rs response.Empty h = tt
 
 -- whose new SA loses
-same_side : (x s : Side) → responses.is_side x s ≡ model.is_side x s
-same_side A A = refl
-same_side A B = refl
-same_side B A = refl
-same_side B B = refl
-
 same_loser :
-    (s : Side) (oi or ti tr : List ℕ) → responses.is_side (responses.collision_loser s oi or ti tr) s ≡ lose (is_a s) oi or ti tr
+    (s : Side) (oi or ti tr : List ℕ) → is_side (responses.collision_loser s oi or ti tr) s ≡ lose (is_a s) oi or ti tr
 unfolding lose
-same_loser A oi or ti tr = same_side (loser_by (lowest_of oi or ti tr)) A
-same_loser B oi or ti tr = same_side (loser_by (lowest_of ti tr oi or)) B
+same_loser A oi or ti tr = refl
+same_loser B oi or ti tr = refl
 
 loses_as :
     (s : Side) (r : Row) (n : List ℕ) (o : Option Collision) (c : Coll) → CollTied o c →

@@ -3,6 +3,7 @@ use Rattle.std.specs.Prelude.{ℕ, Bool, true, false, cond, List, Some, None, Op
 use Rattle.nonce.specs.Order.{lowest_of, loser_by}
 use Rattle.nonce.specs.declared.side.Side.{Side}
 use Rattle.nonce.specs.declared.side.Side.TheVariants.{A, B}
+use Rattle.nonce.specs.Sides.{is_side}
 use Rattle.book.specs.Rows.{kept_octets}
 use Rattle.book.specs.Shelves.{Shelf, lookup}
 use Rattle.book.specs.declared.row.Row.{Row}
@@ -35,12 +36,6 @@ counted rs (response.NewSa peer nr) = cond (unusable rs peer) (response.Failed N
 counted rs (response.Failed e) = response.Failed e
 counted rs (response.Delete spi) = response.Delete spi
 counted rs response.Empty = response.Empty
-
-abbrev pub is_side : Side → Side → Bool
-is_side A A = true
-is_side A B = false
-is_side B A = false
-is_side B B = true
 
 -- whose new SA loses: own is the exchange that this side began, theirs the peer's
 abbrev pub collision_loser : Side → (own_i own_r their_i their_r : List ℕ) → Side
