@@ -1,5 +1,6 @@
 -- What a book means: its rows by rising own SPI, and what each question and each change does to them.
-use Rattle.std.specs.Prelude.{ℕ, ◌<◌, ◌≤◌, Bool, cond, not, ◌&&◌, List, [], ◌∷◌, length, is_some, Some, None, Ok, Err, Option, Result, ◌==◌, nat_le, nat_lt, ◌≡◌, refl}
+use Rattle.std.specs.Prelude.{ℕ, pred, ◌<◌, ◌≤◌, Bool, cond, not, ◌&&◌, List, [], ◌∷◌, length, is_some, Some, None, Ok, Err, Option, Result, ◌==◌, nat_le, nat_lt, ◌≡◌, refl}
+use Rattle.nonce.specs.Spis.{lowest_spi, is_reserved}
 use Rattle.book.specs.declared.row.Row.{Row}
 use Rattle.book.specs.declared.BookRefusal.{BookRefusal}
 use Rattle.book.specs.declared.BookRefusal.TheVariants.{Reserved, Present, Full, Absent}
@@ -17,7 +18,7 @@ Rising k (r ∷ rs) = (k < r.own) × Rising r.own rs
 
 -- Rows rise, none has a reserved own SPI, and there are no more than there can be.
 pub record Orderly (s : Shelf) : Type 0 where
-  pub rises : Rising 255 s.rows
+  pub rises : Rising (pred lowest_spi) s.rows
   pub within : length s.rows ≤ s.most
 
 -- the row of an own SPI
@@ -79,7 +80,7 @@ changed s (Some e) rs = (Err e, s)
 -- why a row is not put
 abbrev pub put_refusal : Shelf → Row → Option BookRefusal
 put_refusal s x =
-    cond (nat_lt x.own 256) (Some Reserved)
+    cond (is_reserved x.own) (Some Reserved)
     (cond (has s.rows x.own) (Some Present) (cond (nat_le s.most (length s.rows)) (Some Full) None))
 
 -- why the row of an own SPI is not written or removed

@@ -19,6 +19,7 @@ use calls::refusals::DeliverRefusal;
 use law::kinds::Kind;
 use nonce::Nonce;
 use nonce::order::Exchanged;
+use nonce::spi::LOWEST_SPI;
 use wire::message::{Body, Failure, Message, Request, Response};
 
 impl<B: Book> Endpoint<B> {
@@ -58,7 +59,7 @@ impl<B: Book> Endpoint<B> {
     pub(crate) fn is_unusable(&self, peer: u32) -> bool
         ensures { result ≡ unusable self.now.shelf.rows peer }
     {
-        peer < 256 || self.book.find(peer).is_some()
+        peer < LOWEST_SPI || self.book.find(peer).is_some()
     }
 
     /// Whether there is no room in the book, or no own SPI.

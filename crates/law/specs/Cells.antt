@@ -13,7 +13,7 @@ abbrev pub is_mine : Beginner → Bool
 is_mine ThisEnd = true
 is_mine Peer = false
 
--- own SPIs are 256 and more, so that a row has a parent where its parent's own SPI is not 0
+-- own SPIs are not reserved, so that a row has a parent where its parent's own SPI is not 0
 abbrev pub is_heir : Row → Bool
 is_heir r = not (r.parent.own == 0)
 

@@ -1,5 +1,6 @@
 -- What a request with the expected ID does to an end, and what is answered: the first line that applies decides.
 use Rattle.std.specs.Prelude.{ℕ, suc, Bool, false, cond, ◌||◌, List, length, is_some, Some, None, Option, ◌==◌, nat_le}
+use Rattle.nonce.specs.Spis.{is_reserved}
 use Rattle.book.specs.Shelves.{Shelf, lookup, find}
 use Rattle.book.specs.declared.row.Row.{Row}
 use Rattle.book.specs.declared.row.RowState.{RowState}
@@ -10,7 +11,7 @@ use Rattle.wire.specs.declared.message.Request.{Request}
 use Rattle.wire.specs.declared.message.Request.TheVariants as request
 use Rattle.wire.specs.declared.message.Response.{Response}
 use Rattle.wire.specs.declared.message.Response.TheVariants as response
-use Rattle.law.specs.Ends.{End, Outstanding, Collision, is_spent, is_reserved, response_octets, replying}
+use Rattle.law.specs.Ends.{End, Outstanding, Collision, is_spent, response_octets, replying}
 use Rattle.law.specs.Asks.{Doing}
 use Rattle.law.specs.Rows.{none, fresh_row, in_state, calm_shelf, with_row, rewritten, without}
 use Rattle.law.specs.declared.kinds.Kind.{Kind}

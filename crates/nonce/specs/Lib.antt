@@ -4,3 +4,4 @@ pub mod Nonces
 pub mod Order
 pub mod Names
 pub mod Sides
+pub mod Spis
