@@ -1,7 +1,7 @@
 //! The rows that an end files, and how it changes its book.
 ghost use Rattle.std.specs.Prelude.{◌≡◌, ◌<◌, ◌^◌, true, IfSome};
 ghost use Rattle.nonce.specs.Nonces.{nonce_long};
-ghost use Rattle.book.specs.Rows.{kept, kept_octets};
+ghost use Rattle.book.specs.Rows.{kept_octets};
 ghost use Rattle.book.specs.Shelves.{lookup};
 ghost use Rattle.law.specs.Rows.{opening_row, fresh_row, made_row, in_state, rewritten, without};
 ghost use Rattle.endpoint.specs.Changes.{with_shelf, filing};
@@ -10,16 +10,6 @@ use crate::Endpoint;
 use book::Book;
 use book::row::{Beginner, KeptNonce, Row, RowState, Spis};
 use nonce::Nonce;
-
-/// A nonce as a row keeps it.
-fn kept(nonce: &Nonce) -> KeptNonce
-    ensures value { result ≡ kept nonce.now }
-    ensures long { nonce_long (kept_octets result) ≡ true }
-{
-    // only a nonce that is looked at shows that it has 16 to 32 octets
-    let _octets = nonce.as_slice();
-    KeptNonce::from(nonce)
-}
 
 /// Requested here, with this nonce.
 pub(crate) fn opening_row(own: u32, parent: Spis, ni: &Nonce) -> Row
@@ -32,7 +22,7 @@ pub(crate) fn opening_row(own: u32, parent: Spis, ni: &Nonce) -> Row
         state: RowState::Opening,
         began: Beginner::ThisEnd,
         parent,
-        ni: kept(ni),
+        ni: KeptNonce::from(ni),
         nr: KeptNonce {
             octets: [0; 32],
             len: 0,
@@ -51,7 +41,7 @@ pub(crate) fn fresh_row(own: u32, peer: u32, parent: Spis, ni: &Nonce, nr: &Nonc
         state: RowState::Fresh,
         began: Beginner::Peer,
         parent,
-        ni: kept(ni),
+        ni: KeptNonce::from(ni),
         nr: KeptNonce::from(nr),
     }
 }
