@@ -1,12 +1,11 @@
 -- What each change of a book answers and leaves, case by case.
-use Rattle.std.proofs.Common.{◌≡◌, ℕ, ◌<◌, ◌≤◌, true, false, ltb, leb, List, length, is_some, Some, None, Ok, Err, Option, sym, refl, ap, ◌∙◌, inl, inr, arith}
+use Rattle.std.proofs.Common.{◌≡◌, ℕ, ◌<◌, ◌≤◌, true, false, ltb, leb, List, length, is_some, Some, None, Ok, Err, Option, sym, refl, ap, ◌∙◌}
 use Rattle.std.specs.Option.{ok_or}
-use Rattle.std.proofs.lemmas.Bool.{cases_Bool, cases_lt, lt-ltb, le-ltb, le-leb, lt-leb}
+use Rattle.std.proofs.lemmas.Bool.{le-ltb, le-leb, lt-leb}
 use Rattle.book.specs.declared.row.Row.{Row}
 use Rattle.book.specs.declared.BookRefusal.{BookRefusal}
-use Rattle.book.specs.declared.BookRefusal.TheVariants.{Reserved, Present, Full, Absent}
-use Rattle.book.specs.Shelves.{Shelf, Orderly, Answer, lookup, has, insert, replace, remove, put_in, written_in, removed_from, read_in, empty_shelf}
-use Rattle.book.proofs.Lookups.{rising_insert, rising_replace, rising_remove, length_insert, length_replace, length_remove}
+use Rattle.book.specs.declared.BookRefusal.TheVariants.{Present, Full, Absent}
+use Rattle.book.specs.Shelves.{Shelf, Answer, lookup, has, insert, replace, remove, put_in, written_in, removed_from, read_in}
 
 none_is : (o : Option Row) → is_some o ≡ false → o ≡ None
 none_is None h = refl
@@ -15,9 +14,6 @@ none_is (Some r) h = cc
 -- a row that is not there is not found
 has_none : (rs : List Row) (k : ℕ) → has rs k ≡ false → lookup rs k ≡ None
 has_none rs k h = none_is (lookup rs k) h
-
-pub put_reserved : (s : Shelf) (x : Row) → x.own < 256 → put_in s x ≡ (Err Reserved, s)
-put_reserved s x l = let t : ltb x.own 256 ≡ true = lt-ltb _ _ l in rw t refl
 
 pub put_present : (s : Shelf) (x : Row) → 256 ≤ x.own → has s.rows x.own ≡ true → put_in s x ≡ (Err Present, s)
 put_present s x l h = let t : ltb x.own 256 ≡ false = le-ltb _ _ l in rw (t, h) refl
@@ -89,43 +85,3 @@ module _ (s : Shelf) (k : ℕ) (o : Option ℕ) (e : BookRefusal) (h : has s.row
 
   pub write_refused : (x : Row) → x.own ≡ k → (Err e, s) ≡ written_in s x
   write_refused x f = rw ((err_is o Absent e r).1) (sym (write_absent s x (ap (has s.rows) f ∙ lacks)))
-
--- each change leaves an orderly book
-pub empty_orderly : (n : ℕ) → Orderly (empty_shelf n)
-empty_orderly n = record { rises = tt; within = omega arith }
-
-pub put_orderly : (s : Shelf) (x : Row) → Orderly s → Orderly (put_in s x).1
-put_orderly s x o =
-    elim (cases_lt x.own 256) [
-      | inl l ↦ rw (put_reserved s x l) o
-      | inr l ↦
-          elim (cases_Bool (has s.rows x.own)) [
-            | inl h ↦ rw (put_present s x l h) o
-            | inr h ↦
-                elim (cases_lt (length s.rows) s.most) [
-                  | inl m ↦
-                      let e = put_done s x l h m in
-                      rw e
-                      (record { rises = rising_insert 255 s.rows x (omega arith) h o.rises; within = omega (arith, length_insert s.rows x) })
-                  | inr m ↦ rw (put_full s x l h m) o
-                ]
-          ]
-    ]
-
-pub write_orderly : (s : Shelf) (x : Row) → Orderly s → Orderly (written_in s x).1
-write_orderly s x o =
-    elim (cases_Bool (has s.rows x.own)) [
-      | inl h ↦
-          rw (write_done s x h)
-          (record { rises = rising_replace 255 s.rows x o.rises; within = omega (arith, length_replace s.rows x, o.within) })
-      | inr h ↦ rw (write_absent s x h) o
-    ]
-
-pub remove_orderly : (s : Shelf) (k : ℕ) → Orderly s → Orderly (removed_from s k).1
-remove_orderly s k o =
-    elim (cases_Bool (has s.rows k)) [
-      | inl h ↦
-          rw (remove_done s k h)
-          (record { rises = rising_remove 255 s.rows k o.rises; within = omega (arith, length_remove s.rows k h, o.within) })
-      | inr h ↦ rw (remove_absent s k h) o
-    ]
