@@ -43,7 +43,7 @@ use Rattle.law.specs.Cells.{is_mine, is_heir, sa_of, cell_by, cell_in, lines}
 use Rattle.law.specs.Ends.{End, Outstanding, made_end}
 use Rattle.law.specs.Runs.{World, at, Called, Run, Fit, Start, ever}
 use Rattle.law.specs.Laws as laws
-use Rattle.law.specs.Laws.{row_of, Quiet, Mirrored, MadeAt, InNeither, InBook, InBoth, Rekeys, loser_of, Loses, Accepted, Names, GaveUp, Succession, Tally, tally, rounds_since, WithoutResend, HoldsTwo, Law, front, Lawful, GoesOn}
+use Rattle.law.specs.Laws.{row_of, Quiet, Mirrored, MadeAt, InNeither, InBook, InBoth, Replaces, loser_of, Loses, Accepted, Names, GaveUp, Succession, Tally, tally, rounds_since, WithoutResend, HoldsTwo, Law, front, Lawful, GoesOn}
 use Rattle.law.proofs.Calling.{call_of, answer_of, refusal_of, idle_of}
 use Rattle.law.proofs.Cells.{lines_lookup}
 use Rattle.law.proofs.Followed.{moves_of, answers_of, row_live, Ties, image, node_at, Followed, follow}
@@ -104,11 +104,11 @@ row_gone : (rs : List Row) (k : ℕ) → lookup (lines rs) k ≡ None → shelf.
 row_gone rs k h = row_none (shelf.lookup rs k) (sym (lines_lookup rs k) ∙ h)
 
 -- heirs
-heir_of : (r : Row) → Rekeys r → is_heir r ≡ true
+heir_of : (r : Row) → Replaces r → is_heir r ≡ true
 heir_of r h = not_from_false _ (ne_eqb r.parent.own 0 h)
 
-rekeys_of : (r : Row) → is_heir r ≡ true → Rekeys r
-rekeys_of r h e = true≢false (sym (eq-eqb r.parent.own 0 e) ∙ not-true _ h)
+replaces_of : (r : Row) → is_heir r ≡ true → Replaces r
+replaces_of r h e = true≢false (sym (eq-eqb r.parent.own 0 e) ∙ not-true _ h)
 
 side_is : (x s : Side) → is_side x s ≡ true → x ≡ s
 side_is A A h = refl
@@ -141,7 +141,7 @@ loses_to : (s : Side) (r t : Row) → Loses s r t → invariant.Loses (first_acr
 loses_to s r t h = record { s_heir = heir_of r h.here; t_heir = heir_of t h.there; one = sym h.one; other = sym h.same; less = lose_to s r t h.loser }
 
 loses_back : (s : Side) (r t : Row) → invariant.Loses (first_across s) (sa_of r) (sa_of t) → Loses s r t
-loses_back s r t h = record { here = rekeys_of r h.s_heir; there = rekeys_of t h.t_heir; one = sym h.one; same = sym h.other; loser = lose_back s r t h.less }
+loses_back s r t h = record { here = replaces_of r h.s_heir; there = replaces_of t h.t_heir; one = sym h.one; same = sym h.other; loser = lose_back s r t h.less }
 
 module _ {C : Type 0} (behaviour : Behaviour C) where
   -- an ask that gives up an SA was accepted

@@ -52,8 +52,8 @@ pub record InBoth {C : Type 0} (s : Side) (own peer : ℕ) (w : World C) : Type 
   pub there : InBook (other s) peer own w
 
 -- the row is of an SA that was made to replace another
-abbrev pub Rekeys : Row → Type 0
-Rekeys r = r.parent.own ≡ 0 → ⊥
+abbrev pub Replaces : Row → Type 0
+Replaces r = r.parent.own ≡ 0 → ⊥
 
 -- Whose new SA loses, where s answered the peer's rekey with r and the peer that of s with t.
 abbrev pub loser_of : Side → Row → Row → Side
@@ -62,8 +62,8 @@ loser_of B r t = loser_by (lowest_of (kept_octets r.ni) (kept_octets r.nr) (kept
 
 -- r, which s made for its peer, and t, which the peer made for s, replace one SA, and r loses
 pub record Loses (s : Side) (r t : Row) : Type 0 where
-  pub here : Rekeys r
-  pub there : Rekeys t
+  pub here : Replaces r
+  pub there : Replaces t
   pub one : r.parent.own ≡ t.parent.peer
   pub same : r.parent.peer ≡ t.parent.own
   pub loser : loser_of s r t ≡ other s
@@ -94,10 +94,10 @@ GaveUp (m ∷ ms) (r ∷ rs) s own = ((m.side ≡ s) × Names m.call own × Acce
 pub record Succession {C : Type 0} (s : Side) (ever_in : (World C → Type 0) → Type 0) (gave : Side → ℕ → Type 0) (w : World C) : Type 0 where
   -- an SA that was rekeyed is in neither book
   pub rekeyed :
-      (own : ℕ) (r : Row) → ever_in (MadeAt s own r) → Rekeys r → InNeither s r.parent.own r.parent.peer w
+      (own : ℕ) (r : Row) → ever_in (MadeAt s own r) → Replaces r → InNeither s r.parent.own r.parent.peer w
   -- an end answers at most one rekey of an SA with a new one
   pub once :
-      (own other_own : ℕ) (r t : Row) → ever_in (MadeAt s own r) → ever_in (MadeAt s other_own t) → Rekeys r →
+      (own other_own : ℕ) (r t : Row) → ever_in (MadeAt s own r) → ever_in (MadeAt s other_own t) → Replaces r →
       r.parent.own ≡ t.parent.own → own ≡ other_own
   -- of two new SAs for one the loser is in neither book
   pub loser :
