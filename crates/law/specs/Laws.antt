@@ -138,8 +138,8 @@ tally t [] rs = t
 tally t (m ∷ ms) [] = t
 tally t (m ∷ ms) (r ∷ rs) = tally (tallied t m.side r) ms rs
 
-abbrev pub rounds_since : List (Move (List ℕ)) → List Answer → ℕ
-rounds_since ms rs = (tally (record { rounds = 0; half = false }) ms rs).rounds
+abbrev pub rounds_since_ask : List (Move (List ℕ)) → List Answer → ℕ
+rounds_since_ask ms rs = (tally (record { rounds = 0; half = false }) ms rs).rounds
 
 abbrev pub is_resend : Call (List ℕ) → Bool
 is_resend (Create n) = false
@@ -165,7 +165,7 @@ pub record Law {C : Type 0} (behaviour : Behaviour C) (v : World C) (ms : List (
   -- and what was rekeyed, and the loser of a collision, is in neither book; every successor is in both, unless it was given up
   pub succession : Quiet w → (s : Side) → Succession s (λ F. ever behaviour F v ms rs w h) (GaveUp ms rs) w
   -- without a resend, over a channel that holds two messages for each end, both are quiet eight rounds after the last accepted ask
-  pub rest : HoldsTwo (behaviour.meaning v.channel) → WithoutResend ms → 8 ≤ rounds_since ms rs → Quiet w
+  pub rest : HoldsTwo (behaviour.meaning v.channel) → WithoutResend ms → 8 ≤ rounds_since_ask ms rs → Quiet w
 
 -- the first calls of a run
 pub record Front {C : Type 0} (behaviour : Behaviour C) (v : World C) (ms : List (Move (List ℕ))) (rs : List Answer) : Type 0 where

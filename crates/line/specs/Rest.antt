@@ -98,8 +98,8 @@ tally t (x ∷ xs) [] = t
 tally t (x ∷ xs) (r ∷ rs) = tally (tallied t x.side x.call r) xs rs
 
 -- the rounds that have followed the last ask that was taken
-abbrev pub rounds_since : List Move → List Answer → ℕ
-rounds_since xs rs = (tally (record { rounds = 0; half = false }) xs rs).rounds
+abbrev pub rounds_since_ask : List Move → List Answer → ℕ
+rounds_since_ask xs rs = (tally (record { rounds = 0; half = false }) xs rs).rounds
 
 abbrev pub not_resend : Call → Type 0
 not_resend (asking w) = Unit {0}
