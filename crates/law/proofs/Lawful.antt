@@ -43,7 +43,7 @@ use Rattle.law.specs.Cells.{is_mine, is_heir, sa_of, cell_by, cell_in, lines}
 use Rattle.law.specs.Ends.{End, Outstanding, made_end}
 use Rattle.law.specs.Runs.{World, at, Called, Run, Fit, Start, ever}
 use Rattle.law.specs.Laws as laws
-use Rattle.law.specs.Laws.{row_of, Quiet, Mirrored, MadeAt, InNeither, InBook, InBoth, Replaces, loser_of, Loses, Accepted, Names, GaveUp, Succession, Tally, tally, rounds_since_ask, WithoutResend, HoldsTwo, Law, front, Lawful, GoesOn}
+use Rattle.law.specs.Laws.{row_of, Quiet, Mirrored, MadeAt, InNeither, InBook, InBoth, Replaces, loser_of, Loses, Accepted, Names, GivenUpBy, Succession, Tally, tally, rounds_since_ask, WithoutResend, HoldsTwo, Law, front, Lawful, GoesOn}
 use Rattle.law.proofs.Calling.{call_of, answer_of, refusal_of, idle_of}
 use Rattle.law.proofs.Cells.{lines_lookup}
 use Rattle.law.proofs.Followed.{moves_of, answers_of, row_live, Ties, image, node_at, Followed, follow}
@@ -145,36 +145,36 @@ loses_back s r t h = record { here = replaces_of r h.s_heir; there = replaces_of
 
 module _ {C : Type 0} (behaviour : Behaviour C) where
   -- an ask that gives up an SA was accepted
-  gave_one :
+  gives_up :
       (e e' : End) (c c' : C) (x : Call (List ℕ)) (a : Answer) (k : ℕ) → Called behaviour e c x a e' c' → GivesUp (call_of x) (answer_of a) k →
       Names x k × Accepted a
-  gave_one e e' c c' (calls.Create n) (answer.Asked (Ok s)) k h g = absurd g
-  gave_one e e' c c' (calls.Create n) (answer.Asked (Err f)) k h g = absurd g
-  gave_one e e' c c' (calls.Create n) (answer.Resent r) k h g = absurd h
-  gave_one e e' c c' (calls.Create n) (answer.Heard r) k h g = absurd h
-  gave_one e e' c c' (calls.Rekey own n) (answer.Asked (Ok s)) k h g = (g, tt)
-  gave_one e e' c c' (calls.Rekey own n) (answer.Asked (Err f)) k h g = absurd g
-  gave_one e e' c c' (calls.Rekey own n) (answer.Resent r) k h g = absurd h
-  gave_one e e' c c' (calls.Rekey own n) (answer.Heard r) k h g = absurd h
-  gave_one e e' c c' (calls.Delete own) (answer.Asked (Ok s)) k h g = (g, tt)
-  gave_one e e' c c' (calls.Delete own) (answer.Asked (Err f)) k h g = absurd g
-  gave_one e e' c c' (calls.Delete own) (answer.Resent r) k h g = absurd h
-  gave_one e e' c c' (calls.Delete own) (answer.Heard r) k h g = absurd h
-  gave_one e e' c c' calls.Check (answer.Asked (Ok s)) k h g = absurd g
-  gave_one e e' c c' calls.Check (answer.Asked (Err f)) k h g = absurd g
-  gave_one e e' c c' calls.Check (answer.Resent r) k h g = absurd h
-  gave_one e e' c c' calls.Check (answer.Heard r) k h g = absurd h
-  gave_one e e' c c' calls.Resend a k h g = absurd g
-  gave_one e e' c c' (calls.Deliver n) a k h g = absurd g
+  gives_up e e' c c' (calls.Create n) (answer.Asked (Ok s)) k h g = absurd g
+  gives_up e e' c c' (calls.Create n) (answer.Asked (Err f)) k h g = absurd g
+  gives_up e e' c c' (calls.Create n) (answer.Resent r) k h g = absurd h
+  gives_up e e' c c' (calls.Create n) (answer.Heard r) k h g = absurd h
+  gives_up e e' c c' (calls.Rekey own n) (answer.Asked (Ok s)) k h g = (g, tt)
+  gives_up e e' c c' (calls.Rekey own n) (answer.Asked (Err f)) k h g = absurd g
+  gives_up e e' c c' (calls.Rekey own n) (answer.Resent r) k h g = absurd h
+  gives_up e e' c c' (calls.Rekey own n) (answer.Heard r) k h g = absurd h
+  gives_up e e' c c' (calls.Delete own) (answer.Asked (Ok s)) k h g = (g, tt)
+  gives_up e e' c c' (calls.Delete own) (answer.Asked (Err f)) k h g = absurd g
+  gives_up e e' c c' (calls.Delete own) (answer.Resent r) k h g = absurd h
+  gives_up e e' c c' (calls.Delete own) (answer.Heard r) k h g = absurd h
+  gives_up e e' c c' calls.Check (answer.Asked (Ok s)) k h g = absurd g
+  gives_up e e' c c' calls.Check (answer.Asked (Err f)) k h g = absurd g
+  gives_up e e' c c' calls.Check (answer.Resent r) k h g = absurd h
+  gives_up e e' c c' calls.Check (answer.Heard r) k h g = absurd h
+  gives_up e e' c c' calls.Resend a k h g = absurd g
+  gives_up e e' c c' (calls.Deliver n) a k h g = absurd g
 
-  gave_run :
+  given_up :
       (v : World C) (ms : List (Move (List ℕ))) (rs : List Answer) (w : World C) (s : Side) (k : ℕ) → Run behaviour v ms rs w →
-      line_history.GivenUpBy (moves_of ms) (answers_of rs) s k → GaveUp ms rs s k
-  gave_run v [] rs w s k h g = absurd g
-  gave_run v (m ∷ ms) [] w s k h g = absurd h
-  gave_run v (m ∷ ms) (a ∷ rs) w s k h g =
-      ⊎_elim (λ z. let p = gave_one _ _ _ _ m.call a k h.1.this z.1 in inl (z.0, p.0, p.1))
-      (λ z. inr (gave_run h.0 ms rs w s k h.2 z)) g
+      line_history.GivenUpBy (moves_of ms) (answers_of rs) s k → GivenUpBy ms rs s k
+  given_up v [] rs w s k h g = absurd g
+  given_up v (m ∷ ms) [] w s k h g = absurd h
+  given_up v (m ∷ ms) (a ∷ rs) w s k h g =
+      ⊎_elim (λ z. let p = gives_up _ _ _ _ m.call a k h.1.this z.1 in inl (z.0, p.0, p.1))
+      (λ z. inr (given_up h.0 ms rs w s k h.2 z)) g
 
   -- rounds are counted alike
   abbrev as_line : Tally → line_rest.Tally
@@ -278,7 +278,7 @@ module _ {C : Type 0} (behaviour : Behaviour C) (i r : ℕ) (fits_i : i < 2 ^ 64
       Succeeds (λ (u : line.World C). node_at s u) (λ (u : line.World C). node_at (other s) u) (first_across s) s (other s)
       (λ F. line_history.ever K behaviour.meaning F (image v x) (moves_of ms) (answers_of rs) (image w f.ties) f.run)
       (line_history.GivenUpBy (moves_of ms) (answers_of rs)) (image w f.ties) →
-      Succession s (λ F. ever behaviour F v ms rs w h) (GaveUp ms rs) w
+      Succession s (λ F. ever behaviour F v ms rs w h) (GivenUpBy ms rs) w
   succession s S =
       record {
         rekeyed = λ own y e k.
@@ -295,7 +295,7 @@ module _ {C : Type 0} (behaviour : Behaviour C) (i r : ℕ) (fits_i : i < 2 ^ 64
             (λ j z g l.
             let q = f.back (other s) j z g in
             beat j q.0 q.1 (loses_back s y q.0 (subst (invariant.Loses (first_across s) (sa_of y)) (sym q.2) l)))
-            (λ g. mine (gave_run behaviour v ms rs w s own h g)) (λ g. theirs (gave_run behaviour v ms rs w (other s) y.peer h g))
+            (λ g. mine (given_up behaviour v ms rs w s own h g)) (λ g. theirs (given_up behaviour v ms rs w (other s) y.peer h g))
             in
             record {
               here = present s own p.0.0 (sa_of y) p.0.1;
@@ -356,7 +356,7 @@ module _ {C : Type 0} (behaviour : Behaviour C) (sound : (c : C) → Sound (beha
         mirrors = λ q. both (λ t. Mirrored t w)
             (mirrored w.a.shelf.rows w.b.shelf.rows (l.mirrors.a_in_b (quiet q).a (quiet q).b))
             (mirrored w.b.shelf.rows w.a.shelf.rows (l.mirrors.b_in_a (quiet q).a (quiet q).b));
-        succession = λ q. both (λ t. Succession t (λ F. ever behaviour F v ms rs w h) (GaveUp ms rs) w)
+        succession = λ q. both (λ t. Succession t (λ F. ever behaviour F v ms rs w h) (GivenUpBy ms rs) w)
             (succession behaviour i r fits_i fits_r v ms rs w h x f A (l.made_by_a (quiet q)))
             (succession behaviour i r fits_i fits_r v ms rs w h x f B (l.made_by_b (quiet q)));
         rest = λ deep calm n.

@@ -85,13 +85,13 @@ Names Resend own = ⊥
 Names (Deliver n) own = ⊥
 
 -- in the run, the end of a side accepted a rekey or a delete of the SA of its own SPI
-abbrev pub GaveUp : List (Move (List ℕ)) → List Answer → Side → ℕ → Type 0
-GaveUp [] rs s own = ⊥
-GaveUp (m ∷ ms) [] s own = ⊥
-GaveUp (m ∷ ms) (r ∷ rs) s own = ((m.side ≡ s) × Names m.call own × Accepted r) ⊎ GaveUp ms rs s own
+abbrev pub GivenUpBy : List (Move (List ℕ)) → List Answer → Side → ℕ → Type 0
+GivenUpBy [] rs s own = ⊥
+GivenUpBy (m ∷ ms) [] s own = ⊥
+GivenUpBy (m ∷ ms) (r ∷ rs) s own = ((m.side ≡ s) × Names m.call own × Accepted r) ⊎ GivenUpBy ms rs s own
 
--- What has become, once both ends are quiet, of the SAs that the end of the side s made for its peer. Ever is of the moments of the run, gave of its accepted asks.
-pub record Succession {C : Type 0} (s : Side) (ever_in : (World C → Type 0) → Type 0) (gave : Side → ℕ → Type 0) (w : World C) : Type 0 where
+-- What has become, once both ends are quiet, of the SAs that the end of the side s made for its peer. Ever is of the moments of the run, given_up of its accepted asks.
+pub record Succession {C : Type 0} (s : Side) (ever_in : (World C → Type 0) → Type 0) (given_up : Side → ℕ → Type 0) (w : World C) : Type 0 where
   -- an SA that was rekeyed is in neither book
   pub rekeyed :
       (own : ℕ) (r : Row) → ever_in (MadeAt s own r) → Replaces r → InNeither s r.parent.own r.parent.peer w
@@ -106,8 +106,8 @@ pub record Succession {C : Type 0} (s : Side) (ever_in : (World C → Type 0) �
   -- the other, or the only one, is in both, unless an end accepted a rekey or a delete of it
   pub successor :
       (own : ℕ) (r : Row) → ever_in (MadeAt s own r) →
-      ((their_own : ℕ) (t : Row) → ever_in (MadeAt (other s) their_own t) → Loses s r t → ⊥) → (gave s own → ⊥) →
-      (gave (other s) r.peer → ⊥) → InBoth s own r.peer w
+      ((their_own : ℕ) (t : Row) → ever_in (MadeAt (other s) their_own t) → Loses s r t → ⊥) → (given_up s own → ⊥) →
+      (given_up (other s) r.peer → ⊥) → InBoth s own r.peer w
 
 -- Rounds since the last accepted ask, and whether a delivery to A has begun the next one. A round is a delivery to A and then one
 -- to B, neither refused for its nonce; other calls may lie between.
@@ -163,7 +163,7 @@ pub record Law {C : Type 0} (behaviour : Behaviour C) (v : World C) (ms : List (
   -- whenever both ends are quiet, every row of either book has its mirror in the other
   pub mirrors : Quiet w → (s : Side) → Mirrored s w
   -- and what was rekeyed, and the loser of a collision, is in neither book; every successor is in both, unless it was given up
-  pub succession : Quiet w → (s : Side) → Succession s (λ F. ever behaviour F v ms rs w h) (GaveUp ms rs) w
+  pub succession : Quiet w → (s : Side) → Succession s (λ F. ever behaviour F v ms rs w h) (GivenUpBy ms rs) w
   -- without a resend, over a channel that holds two messages for each end, both are quiet eight rounds after the last accepted ask
   pub rest : HoldsTwo (behaviour.meaning v.channel) → WithoutResend ms → 8 ≤ rounds_since_ask ms rs → Quiet w
 
