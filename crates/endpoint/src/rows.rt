@@ -48,7 +48,7 @@ pub(crate) fn fresh_row(own: u32, peer: u32, parent: Spis, ni: &Nonce, nr: &Nonc
 
 /// An Opening row once the peer has made the SA, under its SPI and with its nonce.
 pub(crate) fn made_row(row: Row, peer: u32, nr: &Nonce) -> Row
-    ensures { result ≡ made_row RowState.Standing peer nr.now row }
+    ensures { result ≡ made_row peer nr.now row }
 {
     Row {
         peer,

@@ -207,7 +207,7 @@ opened e k d b h = opened_at e k d (shelf.lookup e.shelf.rows k) b refl (sym (li
 -- The peer has made the SA, under its SPI p and with its nonce n: the row stands.
 module _ (e : End) (k : ℕ) (d : Seed) (w : Opened e k d) (rising : Rising 255 e.shelf.rows) (p : ℕ) (n : List ℕ) (fine : nonce_long n ≡ true) where
   abbrev new : Row
-  new = made_row state.Standing p n w.row
+  new = made_row p n w.row
 
   new_sa : sa_of new ≡ grown p d n
   new_sa = rw (w.began, kept_back n fine) (ap (λ y. grown p y n) w.seed)

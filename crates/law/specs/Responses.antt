@@ -7,7 +7,6 @@ use Rattle.nonce.specs.Sides.{is_side}
 use Rattle.book.specs.Rows.{kept_octets}
 use Rattle.book.specs.Shelves.{Shelf, lookup}
 use Rattle.book.specs.declared.row.Row.{Row}
-use Rattle.book.specs.declared.row.RowState.TheVariants.{Standing}
 use Rattle.wire.specs.declared.message.Failure.{Failure}
 use Rattle.wire.specs.declared.message.Failure.TheVariants.{NoProposalChosen, NoAdditionalSas, TemporaryFailure, ChildSaNotFound}
 use Rattle.wire.specs.declared.message.Response.{Response}
@@ -59,12 +58,12 @@ new_settled e o false r s = won e s (lookup s.rows o.old)
 abbrev pub rekey_made : End → Outstanding → ℕ → List ℕ → Option Row → Settled
 rekey_made e o peer nr None = rests e e.shelf
 rekey_made e o peer nr (Some r) =
-    new_settled e o (loses e.side r nr o.collision) (made_row Standing peer nr r)
-    (rewritten e.shelf (made_row Standing peer nr r))
+    new_settled e o (loses e.side r nr o.collision) (made_row peer nr r)
+    (rewritten e.shelf (made_row peer nr r))
 
 abbrev pub create_made : End → ℕ → List ℕ → Option Row → Settled
 create_made e peer nr None = rests e e.shelf
-create_made e peer nr (Some r) = rests e (rewritten e.shelf (made_row Standing peer nr r))
+create_made e peer nr (Some r) = rests e (rewritten e.shelf (made_row peer nr r))
 
 -- the row of the request is dropped
 abbrev pub dropped : End → Outstanding → Settled
