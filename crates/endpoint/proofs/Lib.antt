@@ -1,4 +1,4 @@
-pub mod Filing
+pub mod Nonces
 pub mod Calming
 pub mod Checking
 pub mod Hearing

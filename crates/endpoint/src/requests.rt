@@ -178,7 +178,7 @@ impl<B: Book> Endpoint<B> {
     }
 
     /// A request of the peer: the expected one is answered; the one before it gets the stored reply again.
-    #[tactic(auto, using(crate::proofs::Filing::filed_calm), unfolding(law::specs::Requests::answered))]
+    #[tactic(auto, using(crate::proofs::Nonces::nonces_calm), unfolding(law::specs::Requests::answered))]
     pub(crate) fn hear_request(&mut self, id: u32, request: Request<Nonce>, nr: &Nonce) -> Reaction
         ensures heard { request_heard self.old nr.now id request ≡ heard_by result self.new }
         ensures stays { Stays result self.old self.new }

@@ -67,7 +67,7 @@ pub(crate) fn in_state(row: Row, state: RowState) -> Row
 
 impl<B: Book> Endpoint<B> {
     /// The row of an own SPI.
-    #[tactic(auto, using(crate::proofs::Filing::filed_lookup))]
+    #[tactic(auto, using(crate::proofs::Nonces::nonces_lookup))]
     pub(crate) fn row(&self, own: u32) -> Option<Row>
         ensures value { result ≡ lookup self.now.shelf.rows own }
         ensures long { IfSome result (λ r. nonce_long (kept_octets r.ni) ≡ true) }
@@ -76,7 +76,7 @@ impl<B: Book> Endpoint<B> {
     }
 
     /// Adds a row under the next own SPI, which is used up.
-    #[tactic(auto, using(crate::proofs::Filing::filed_put))]
+    #[tactic(auto, using(crate::proofs::Nonces::nonces_put))]
     pub(crate) fn file(&mut self, row: Row)
         requires left { self.old.spi < 2 ^ 32 }
         requires long { nonce_long (kept_octets row.ni) ≡ true }
@@ -87,7 +87,7 @@ impl<B: Book> Endpoint<B> {
     }
 
     /// Puts a row in the place of the one of its own SPI.
-    #[tactic(auto, using(crate::proofs::Filing::filed_write))]
+    #[tactic(auto, using(crate::proofs::Nonces::nonces_write))]
     pub(crate) fn rewrite(&mut self, row: Row)
         requires { nonce_long (kept_octets row.ni) ≡ true }
         ensures { self.new ≡ with_shelf self.old (rewritten self.old.shelf row) }
@@ -96,7 +96,7 @@ impl<B: Book> Endpoint<B> {
     }
 
     /// Drops the row of an own SPI, if there is one. This is the one place where an end drops a row.
-    #[tactic(auto, using(crate::proofs::Filing::filed_without))]
+    #[tactic(auto, using(crate::proofs::Nonces::nonces_without))]
     pub(crate) fn discard(&mut self, own: u32)
         ensures { self.new ≡ with_shelf self.old (without self.old.shelf own) }
     {
