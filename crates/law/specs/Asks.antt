@@ -86,18 +86,23 @@ closing e r shelf = record {
   says = request_octets e e.next (request.Delete r.own);
 }
 
+abbrev pub deleting : End → Row → Asked
+deleting e r = Ok (closing e r e.shelf)
+
 unfoldable pub delete_asked : End → ℕ → Asked
 delete_asked e own =
     where_holds (is_quiet e.outstanding) refusal.Busy
     (where_holds (not (is_spent e.next)) refusal.IdsSpent
-    (of_row (lookup e.shelf.rows own) (λ r. Ok (closing e r e.shelf))))
+    (of_row (lookup e.shelf.rows own) (deleting e)))
 
 -- check: an empty request
+abbrev pub checking : End → Asked
+checking e = doing e request.Empty (sending e e.shelf e.spi kind.Check 0 0 request.Empty)
+
 unfoldable pub check_asked : End → Asked
 check_asked e =
     where_holds (is_quiet e.outstanding) refusal.Busy
-    (where_holds (not (is_spent e.next)) refusal.IdsSpent
-    (doing e request.Empty (sending e e.shelf e.spi kind.Check 0 0 request.Empty)))
+    (where_holds (not (is_spent e.next)) refusal.IdsSpent (checking e))
 
 -- resend: the outstanding octets once more
 abbrev pub resend_asked : Option Outstanding → Result (List ℕ) ResendRefusal
