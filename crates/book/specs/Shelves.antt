@@ -77,11 +77,15 @@ abbrev pub changed : Shelf → Option BookRefusal → List Row → Answer × She
 changed s None rs = (Ok tt, record { rows = rs; most = s.most })
 changed s (Some e) rs = (Err e, s)
 
+-- no row can be added
+abbrev pub is_full : Shelf → Bool
+is_full s = nat_le s.most (length s.rows)
+
 -- why a row is not put
 abbrev pub put_refusal : Shelf → Row → Option BookRefusal
 put_refusal s x =
     cond (is_reserved x.own) (Some Reserved)
-    (cond (has s.rows x.own) (Some Present) (cond (nat_le s.most (length s.rows)) (Some Full) None))
+    (cond (has s.rows x.own) (Some Present) (cond (is_full s) (Some Full) None))
 
 -- why the row of an own SPI is not written or removed
 abbrev pub absence : Shelf → ℕ → Option BookRefusal

@@ -1,7 +1,7 @@
 -- What an ask does: the first refusal that applies, or the end after it and the octets that are sent.
-use Rattle.std.specs.Prelude.{ℕ, suc, Bool, true, false, not, List, length, Some, None, Ok, Err, Option, Result, nat_le}
+use Rattle.std.specs.Prelude.{ℕ, suc, Bool, true, false, not, List, Some, None, Ok, Err, Option, Result}
 use Rattle.nonce.specs.Nonces.{nonce_long}
-use Rattle.book.specs.Shelves.{Shelf, lookup}
+use Rattle.book.specs.Shelves.{Shelf, is_full, lookup}
 use Rattle.book.specs.declared.row.Row.{Row}
 use Rattle.book.specs.declared.row.RowState.{RowState}
 use Rattle.book.specs.declared.row.RowState.TheVariants.{Opening, Fresh, Standing, Superseded, Closing}
@@ -29,7 +29,7 @@ where_holds true e r = r
 where_holds false e r = Err e
 
 abbrev pub has_room : Shelf → Bool
-has_room s = not (nat_le s.most (length s.rows))
+has_room s = not (is_full s)
 
 -- a request of this end goes out under its next ID
 abbrev pub doing : End → Request (List ℕ) → End → Asked
