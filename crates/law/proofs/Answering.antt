@@ -22,13 +22,12 @@ use Rattle.protocol.specs.Node as nodes
 use Rattle.protocol.specs.Node.{Bar, unusable, no_more, Out, idle, asked, Node}
 use Rattle.protocol.specs.Rows.{Line, insert, remove, calm_lines, Found, nowhere, at, find}
 use Rattle.line.specs.Calls as calls
-use Rattle.law.specs.Cells.{sa_of, cell_of, lines}
 use Rattle.law.specs.Ends.{End, Outstanding, Collision, is_spent, response_octets}
 use Rattle.law.specs.Asks.{Doing}
 use Rattle.law.specs.Rows.{none, fresh_row, in_state, calm_shelf, with_row, rewritten, without}
 use Rattle.law.specs.Requests as requests
 use Rattle.law.specs.Requests.{found, answered}
-use Rattle.law.proofs.Cells.{lines_calm, lines_insert, lines_find, found_by, found_as}
+use Rattle.law.proofs.Cells.{sa_of, cell_of, lines, lines_calm, lines_insert, lines_find, found_by, found_as}
 use Rattle.law.proofs.Dropping.{lines_without, rising_without, below_without, begun_without}
 use Rattle.law.proofs.Finding.{Shows, found_shows, Ready, shows_ready}
 use Rattle.law.proofs.Asking.{kept_back, write_new, lines_rewritten, rising_rewritten, below_rewritten, begun_rewritten}

@@ -18,7 +18,6 @@ use Rattle.protocol.specs.Model.{Seed, opening, live, standing, closing, Ask, cr
 use Rattle.protocol.specs.Node.{idle, asked, sending}
 use Rattle.protocol.specs.Rows.{lookup, insert}
 use Rattle.line.specs.Calls.{Want, to_create, to_rekey, to_delete, to_check, ask, wire}
-use Rattle.law.specs.Cells.{sa_of, cell_of, cell_in, lines}
 use Rattle.law.specs.Ends.{End, Outstanding, is_quiet, is_spent, request_octets}
 use Rattle.law.specs.Rows.{none, opening_row, in_state, with_row, rewritten}
 use Rattle.law.specs.Asks.{Asked, Doing, where_holds, has_room, create_asked, rekey_asked, delete_asked, check_asked}
@@ -29,7 +28,7 @@ use Rattle.std.proofs.lemmas.List.{take_at}
 use Rattle.law.specs.Asks as asks
 use Rattle.law.specs.Asks.{by_state, of_row}
 use Rattle.calls.specs.declared.refusals.AskRefusal.{AskRefusal}
-use Rattle.law.proofs.Cells.{lines_lookup, lines_insert, lines_replace}
+use Rattle.law.proofs.Cells.{sa_of, cell_of, cell_in, lines, lines_lookup, lines_insert, lines_replace}
 use Rattle.law.proofs.Tied.{node, Tied, SameName, Below, RowBegun, Begun, below_absent, below_more, below_insert, below_replace, begun_insert, begun_replace}
 
 -- a nonce in a row is what was put there

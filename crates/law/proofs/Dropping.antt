@@ -8,9 +8,8 @@ use Rattle.book.proofs.Changes.{remove_absent, remove_done}
 use Rattle.book.proofs.Lookups.{rising_remove}
 use Rattle.book.specs.declared.row.Row.{Row}
 use Rattle.protocol.specs.Rows.{remove}
-use Rattle.law.specs.Cells.{lines}
 use Rattle.law.specs.Rows.{without}
-use Rattle.law.proofs.Cells.{lines_remove}
+use Rattle.law.proofs.Cells.{lines, lines_remove}
 use Rattle.law.proofs.Tied.{Below, Begun, below_remove, begun_remove}
 
 remove_none : (rs : List Row) (k : ℕ) → has rs k ≡ false → shelf.remove rs k ≡ rs

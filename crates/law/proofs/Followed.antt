@@ -26,12 +26,11 @@ use Rattle.line.specs.World as line
 use Rattle.line.proofs.Codes.{coding}
 use Rattle.line.proofs.Runs.{Alive, step_alive}
 use Rattle.line.proofs.Tidy.{tidy_alive}
-use Rattle.law.specs.Cells.{is_mine, sa_of, cell_by, cell_of, cell_in, lines}
 use Rattle.law.specs.Ends.{End}
 use Rattle.law.specs.Runs.{World, at, Called, Step, Run, ever}
 use Rattle.law.specs.Laws.{MadeAt}
 use Rattle.law.proofs.Calling.{call_of, answer_of}
-use Rattle.law.proofs.Cells.{lines_lookup}
+use Rattle.law.proofs.Cells.{is_mine, sa_of, cell_by, cell_of, cell_in, lines, lines_lookup}
 use Rattle.law.proofs.Sending.{Named}
 use Rattle.law.proofs.Simulated.{called_does}
 use Rattle.law.proofs.Tied.{node, Tied, RowBegun, all_lookup, theirs_made}

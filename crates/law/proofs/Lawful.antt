@@ -39,13 +39,12 @@ use Rattle.line.specs.World as line
 use Rattle.line.proofs.Codes.{coding, short}
 use Rattle.line.proofs.Runs.{starts}
 use Rattle.line.proofs.Whole.{law_of}
-use Rattle.law.specs.Cells.{is_mine, is_heir, sa_of, cell_by, cell_in, lines}
 use Rattle.law.specs.Ends.{End, Outstanding, made_end}
 use Rattle.law.specs.Runs.{World, at, Called, Run, Fit, Start, ever}
 use Rattle.law.specs.Laws as laws
 use Rattle.law.specs.Laws.{row_of, Quiet, Mirrored, MadeAt, InNeither, InBook, InBoth, Replaces, loser_of, Loses, Accepted, Names, GivenUpBy, Succession, Tally, tally, rounds_since_ask, WithoutResend, HoldsTwo, Law, front, Lawful, GoesOn}
 use Rattle.law.proofs.Calling.{call_of, answer_of, refusal_of, idle_of}
-use Rattle.law.proofs.Cells.{lines_lookup}
+use Rattle.law.proofs.Cells.{is_mine, is_heir, sa_of, cell_by, cell_in, lines, lines_lookup}
 use Rattle.law.proofs.Followed.{moves_of, answers_of, row_live, Ties, image, node_at, Followed, follow}
 use Rattle.law.proofs.Sending.{Named}
 use Rattle.law.proofs.Tied.{node, OutTied, Tied}

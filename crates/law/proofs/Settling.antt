@@ -26,14 +26,13 @@ use Rattle.protocol.specs.Rows.{Line, lookup, insert, remove, find}
 use Rattle.line.specs.Calls.{Coding, quieted, wire, settle, settle_made, settle_won, unless_found, taken_as}
 use Rattle.line.specs.Tidy.{Tidy}
 use Rattle.law.specs.Asks.{closing as closing_of}
-use Rattle.law.specs.Cells.{seed_of, sa_of, cell_by, cell_in, lines}
 use Rattle.law.specs.Ends.{End, Outstanding, Collision, request_octets}
 use Rattle.law.specs.Requests.{row_at}
 use Rattle.law.specs.Responses as responses
 use Rattle.law.specs.Responses.{Settled, rests, goes_on, counted, dropped, new_settled, won, create_settled, rekey_settled, settled_by, settled}
 use Rattle.law.specs.Rows.{in_state, made_row, rewritten, without}
 use Rattle.law.proofs.Asking.{kept_back, write_new, lines_rewritten, rising_rewritten, below_rewritten, begun_rewritten}
-use Rattle.law.proofs.Cells.{lines_lookup, lines_find, found_by, found_as}
+use Rattle.law.proofs.Cells.{seed_of, sa_of, cell_by, cell_in, lines, lines_lookup, lines_find, found_by, found_as}
 use Rattle.law.proofs.Dropping.{lines_without, rising_without, below_without, begun_without}
 use Rattle.law.proofs.Tied.{is_a, node, CollTied, AskTied, OutTied, Tied, SameName, Below, Begun, BegunBy, RowBegun, all_lookup}
 

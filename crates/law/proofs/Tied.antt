@@ -18,9 +18,9 @@ use Rattle.wire.specs.declared.message.Response.{Response}
 use Rattle.protocol.specs.Model.{Coll, alone, met, Ask, create, rekey, delete, check}
 use Rattle.protocol.specs.Node.{Out, idle, asked, Node}
 use Rattle.line.specs.Calls.{wire}
-use Rattle.law.specs.Cells.{lines}
 use Rattle.law.specs.Ends.{End, Outstanding, Collision, request_octets, response_octets}
 use Rattle.law.specs.declared.kinds.Kind.TheVariants as kind
+use Rattle.law.proofs.Cells.{lines}
 
 abbrev pub is_a : Side → Bool
 is_a A = true
