@@ -16,7 +16,7 @@ take_capped n m s l e =
     ]
 
 -- octets that were copied to the front of 32 zeros
-pub copied :
+copied :
     (n : ℕ) (p s : List ℕ) → p ≡ s → n ≡ length s →
     ◌≡◌ {A = KeptNonce} (record { octets = p ++ drop (n - 0) (replicate 32 0); len = n }) (kept s)
 copied n p s e l =
@@ -25,7 +25,13 @@ copied n p s e l =
     cc
 
 -- the octets of a nonce are as many in a row
-pub kept_long : (k : KeptNonce) (s : List ℕ) → k ≡ kept s → 16 ≤ length s → length s ≤ 32 → nonce_long (kept_octets k) ≡ true
+kept_long : (k : KeptNonce) (s : List ℕ) → k ≡ kept s → 16 ≤ length s → length s ≤ 32 → nonce_long (kept_octets k) ≡ true
 kept_long k s e l m =
     let t : kept_octets k ≡ s = ap kept_octets e ∙ take-append_seam s (replicate (32 - length s) 0) in
     rw (t, le-leb _ _ l, le-leb _ _ m) refl
+
+pub nonce_copied :
+    (n : ℕ) (p s : List ℕ) → p ≡ s → n ≡ length s → 16 ≤ length s → length s ≤ 32 →
+    let k : KeptNonce = record { octets = p ++ drop (n - 0) (replicate 32 0); len = n } in
+    (k ≡ kept s) × (nonce_long (kept_octets k) ≡ true)
+nonce_copied n p s e l least most = let c = copied n p s e l in (c, kept_long _ s c least most)
