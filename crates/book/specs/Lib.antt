@@ -1,3 +1,4 @@
 pub mod Rows
 pub mod Shelves
+pub mod Lowest
 pub mod Audits

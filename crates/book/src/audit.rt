@@ -1,7 +1,7 @@
 //! The audit of two books: whether each row of either has its mirror in the other.
 ghost use Rattle.std.specs.Prelude.{◌≡◌};
 ghost use Rattle.std.specs.Iterator.{YieldsFirst, item_count};
-ghost use Rattle.book.specs.Audits.{has_mirror, alone, audited};
+ghost use Rattle.book.specs.Audits.{has_mirror, alone, audited, AllMirrored};
 ghost use Rattle.book.specs.Shelves.{after};
 
 use crate::Book;
@@ -53,7 +53,8 @@ fn first_alone<P: Book, Q: Book>(book: &P, other: &Q) -> Option<Row>
 /// The first row of either book that has no mirror in the other: of A's by rising own SPI, then of B's. Nothing where each
 /// row of either has its mirror.
 pub fn audit<P: Book, Q: Book>(a: &P, b: &Q) -> Option<Alone>
-    ensures { result ≡ audited (P.Book.shelf a.now) (Q.Book.shelf b.now) }
+    ensures value { result ≡ audited (P.Book.shelf a.now) (Q.Book.shelf b.now) }
+    ensures mirrored { result ≡ None → AllMirrored (P.Book.shelf a.now) (Q.Book.shelf b.now) }
 {
     first_alone(a, b)
         .map(|row| Alone { side: Side::A, row })

@@ -1,7 +1,7 @@
 //! A row: what one end files of a Child SA.
-ghost use Rattle.std.specs.Prelude.{◌≡◌};
+ghost use Rattle.std.specs.Prelude.{◌≡◌, true};
 ghost use Rattle.numbered.specs.Apart.{apart_by};
-ghost use Rattle.nonce.specs.Nonces.{as_nonce};
+ghost use Rattle.nonce.specs.Nonces.{as_nonce, nonce_long};
 ghost use Rattle.book.specs.Rows.{state_number, state_of, state_told, is_opening, kept, kept_octets, nr_octets, swapped, spis, exchanged, mirrors};
 ghost use Rattle.book.specs.Shelves.{shows, beyond};
 
@@ -86,7 +86,8 @@ impl RowState {
 }
 
 impl From<&Nonce> for KeptNonce {
-    ghost from_gives = { λ n k. k ≡ kept n.now };
+    // that they have the length of a nonce is said too: it shows only where a nonce is looked at
+    ghost from_gives = { λ n k. (k ≡ kept n.now) × (nonce_long (kept_octets k) ≡ true) };
 
     /// The octets of a nonce.
     // padded as in `Nonce::new`, whose array stays its own

@@ -173,3 +173,15 @@ fn numbers(rt: HostRuntime) -> Result<(), Fail> {
     assert_eq!(rt; KeptNonce::from(&made).len, 20);
     Ok(())
 }
+
+/// A row by default: asked for here, and no SA before it.
+#[test]
+fn default_row(rt: HostRuntime) -> Result<(), Fail> {
+    let row = Row::default();
+    assert_eq!(rt; (row.own, row.peer), (0, 0));
+    assert_eq!(rt; row.state, RowState::Opening);
+    assert_eq!(rt; row.began, Beginner::ThisEnd);
+    assert_eq!(rt; row.parent, Spis { own: 0, peer: 0 });
+    assert_eq!(rt; (row.ni.len, row.nr.len), (0, 0));
+    Ok(())
+}

@@ -10,7 +10,7 @@ pub struct First {
 }
 
 /// What the two ends of an IKE SA are made with.
-// `a` and `b` by name and no `Both`: they are read by name, and nothing here asks for the one of a side
+// `a` and `b` by name and no `Both`, as the IKE SPIs: where an end is made, its own and its peer's are taken at once
 #[derive(Clone, Copy)]
 pub struct Making {
     /// The IKE SPI of A.

@@ -2,7 +2,8 @@
 use Rattle.std.specs.Prelude.{◌≡◌, ℕ, ◌<◌, ◌≤◌, ◌⊎◌, List, length, take, drop, Option, MatchOption}
 use Rattle.std.specs.Option.{option_map}
 use Rattle.nonce.specs.declared.side.Side.{Side}
-use Rattle.channel.specs.Meaning.{Meaning, Within, Without, other}
+use Rattle.nonce.specs.Sides.{other}
+use Rattle.channel.specs.Meaning.{Meaning, Within, Without}
 use Rattle.channel.specs.declared.sent.Sent.{Sent}
 use Rattle.channel.specs.declared.sent.Sent.TheVariants.{Taken}
 

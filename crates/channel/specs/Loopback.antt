@@ -1,7 +1,8 @@
 -- A datagram that is sent over a channel of some depth, and comes.
 use Rattle.std.specs.Prelude.{◌≡◌, ℕ, ◌<◌, ◌≤◌, List, [], ◌++◌, length, drop, Some, None, Option}
 use Rattle.nonce.specs.declared.side.Side.{Side}
-use Rattle.channel.specs.Meaning.{Meaning, Within, other}
+use Rattle.nonce.specs.Sides.{other}
+use Rattle.channel.specs.Meaning.{Meaning, Within}
 use Rattle.channel.specs.Behaviour.{Behaviour, Sends, Receives}
 use Rattle.channel.specs.declared.sent.Sent.{Sent}
 use Rattle.channel.specs.declared.sent.Sent.TheVariants.{Taken, NotTaken}

@@ -5,7 +5,8 @@ use Rattle.std.proofs.lemmas.List.{length-drop, map-append, take_at, drop_at}
 use Rattle.std.proofs.lemmas.Bool.{false≢true, eqb-true, ltb-true, lt-ltb, and_parts, and_from}
 use Rattle.nonce.specs.declared.side.Side.{Side}
 use Rattle.nonce.specs.declared.side.Side.TheVariants.{A, B}
-use Rattle.channel.specs.Meaning.{In, Without, other}
+use Rattle.nonce.specs.Sides.{other}
+use Rattle.channel.specs.Meaning.{In, Without}
 use Rattle.channel.specs.Marks.{mark, is_marked, all_marked}
 
 -- ---- one datagram

@@ -1,10 +1,11 @@
 -- A channel of marked datagrams keeps the rules of a channel.
 use Rattle.std.specs.Prelude.{◌≡◌, ℕ, ◌-◌, ◌<◌, ◌≤◌, Bool, true, false, cond, List, [], ◌++◌, map, length, take, drop, replicate, Some, None, Option, MatchOption, refl}
 use Rattle.std.proofs.Common.{sym, ap, subst, ◌∙◌, inl, inr, ⊎_elim, arith}
-use Rattle.std.proofs.lemmas.List.{length-map, nil_from_length}
+use Rattle.std.proofs.lemmas.List.{length-map}
 use Rattle.std.proofs.lemmas.Bool.{both_ways, cases_Bool, cond-true, cond-false}
 use Rattle.nonce.specs.declared.side.Side.{Side}
-use Rattle.channel.specs.Meaning.{Meaning, Sound, Within, other}
+use Rattle.nonce.specs.Sides.{other}
+use Rattle.channel.specs.Meaning.{Meaning, Sound, Within}
 use Rattle.channel.specs.Effects.{SentAs, Removed, ReceivedAs}
 use Rattle.channel.specs.Marks.{mark, is_marked, all_marked, marked, passed, Unmarks}
 use Rattle.channel.specs.declared.sent.Sent.{Sent}
@@ -18,18 +19,14 @@ at_depth false n h = absurd (omega arith)
 
 module _ (m : Meaning) where
   -- above depth 0 all is marked, and the depth is that below
-  pub deep : 0 < (marked m).depth → (both_marked m.waiting ≡ true) × ((marked m).depth ≡ m.depth)
+  deep : 0 < (marked m).depth → (both_marked m.waiting ≡ true) × ((marked m).depth ≡ m.depth)
   deep h = at_depth (both_marked m.waiting) m.depth h
 
   shown : both_marked m.waiting ≡ true → (marked m).depth ≡ m.depth
   shown b = cond-true (both_marked m.waiting) m.depth 0 b
 
-  pub as_many : (e : Side) → length ((marked m).waiting e) ≡ length (m.waiting e)
+  as_many : (e : Side) → length ((marked m).waiting e) ≡ length (m.waiting e)
   as_many e = length-map (m.waiting e) (drop 4)
-
-  -- where nothing waits above, nothing waits below
-  pub none_below : (e : Side) → (marked m).waiting e ≡ [] → m.waiting e ≡ []
-  none_below e h = nil_from_length (m.waiting e) (sym (as_many e) ∙ ap length h)
 
   pub marked_sound : Sound m → Sound (marked m)
   marked_sound s = record {
@@ -63,15 +60,6 @@ module _ (m n : Meaning) (side : Side) (d : List ℕ) where
           here = cut_without a.here;
           there = ap (map (drop 4)) a.there;
         };
-  }
-
-  -- what is not within the longest is not sent below
-  pub unsent_marked : {t : Sent} → (Within (marked m) d → ⊥) → SentAs (marked m) (marked m) side d t
-  unsent_marked h = record {
-    longest = refl;
-    here = λ x k. inl k;
-    there = λ x k. k;
-    adds = λ f _. absurd (h f);
   }
 
 -- ---- receiving
@@ -161,14 +149,3 @@ module _ (m n : Meaning) (side : Side) (was is : List ℕ) (answer : Option ℕ)
     by (Some k) s e =
         ⊎_elim (λ t. passes u.room k s t e wide) (λ f. dropped u.room k s f e)
         (cases_Bool (is_marked (take k u.room)))
-
--- a short buffer: nothing is asked below
-pub short_received :
-    (m : Meaning) (side : Side) (was : List ℕ) → length was < (marked m).longest →
-    ReceivedAs (marked m) (marked m) side was was None
-short_received m side was short = record {
-  longest = refl;
-  only = λ e d h. h;
-  gives = refl;
-  removes = λ l _ _. absurd (omega arith);
-}

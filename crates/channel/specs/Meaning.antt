@@ -1,12 +1,6 @@
 -- What a channel means. Datagrams are lists of octets.
 use Rattle.std.specs.Prelude.{◌≡◌, ℕ, ◌<◌, ◌≤◌, ◌⊎◌, List, [], ◌∷◌, ◌++◌, length}
 use Rattle.nonce.specs.declared.side.Side.{Side}
-use Rattle.nonce.specs.declared.side.Side.TheVariants.{A, B}
-
--- the end across
-abbrev pub other : Side → Side
-other A = B
-other B = A
 
 -- A datagram has at most longest octets. May says which may still come to an end. While the depth is above 0 these are
 -- those that wait there, each as often as it is listed; at depth 0 the lists say nothing.

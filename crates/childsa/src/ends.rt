@@ -4,7 +4,6 @@ ghost use Rattle.calls.specs.Plain.{plain_move};
 ghost use Rattle.law.specs.Laws.{Lawful, GoesOn};
 ghost use Rattle.pair.specs.Worlds.{world};
 ghost use Rattle.chosen.specs.Piles.{pile_behaves};
-ghost use Rattle.channel.specs.Meaning.{other};
 
 use crate::books::read_kind;
 use crate::channels::{new_bottom, read_markers_before, read_wanted};
@@ -86,16 +85,6 @@ fn read_making(words: &mut Words<'_>) -> Result<Making, Stop> {
     })
 }
 
-/// The end across.
-fn across(side: Side) -> Side
-    ensures { result ≡ other side }
-{
-    match side {
-        Side::A => Side::B,
-        Side::B => Side::A,
-    }
-}
-
 impl Ends {
     /// Two ends over a channel, between which nothing has passed.
     fn new(
@@ -117,7 +106,7 @@ impl Ends {
         ensures law { IfOk result (λ answer. Lawful pile_behaves (world self.old.pair) (plain_move step.entry ∷ []) (answer ∷ []) (world self.new.pair)) }
         ensures goes_on { IfOk result (λ answer. GoesOn pile_behaves (world self.old.pair) (plain_move step.entry ∷ []) (answer ∷ []) (world self.new.pair)) }
     {
-        let there = across(step.side);
+        let there = step.side.other();
         let before = self.waiting(there);
         let answers = self.pair.run(heap, &[step])?;
         let answer = answers[0];

@@ -1,6 +1,7 @@
 -- A walk by `next` that makes each Fresh row Standing: how far it has come, one step, and its end.
 use Rattle.std.proofs.Common.{◌≡◌, ℕ, ◌<◌, ◌≤◌, true, false, cond, eqb, ltb, List, [], ◌∷◌, length, is_some, Some, None, Option, sym, refl, ap, ◌∙◌, inl, inr, arith}
 use Rattle.std.proofs.lemmas.Bool.{cases_Bool, eq-eqb, ne_eqb, lt-ltb, le-ltb, ltb-false}
+use Rattle.nonce.specs.Spis.{last_reserved}
 use Rattle.book.specs.declared.row.Row.{Row}
 use Rattle.book.specs.Shelves.{Shelf, Rising, has, lookup, replace, next, after}
 use Rattle.book.proofs.Lookups.{lookup_own}
@@ -71,28 +72,28 @@ calm_next j (r ∷ rs) k n h e =
     ]
 
 -- The walk begins below all rows.
-pub shelf_start : (s : Shelf) → Rising 255 s.rows → s ≡ shelf_to 0 s
-shelf_start s h = let e = calm_below 255 0 s.rows (omega arith) h in rw e refl
+pub shelf_start : (s : Shelf) → Rising last_reserved s.rows → s ≡ shelf_to 0 s
+shelf_start s h = let e = calm_below last_reserved 0 s.rows (omega arith) h in rw e refl
 
 -- The book was s, and is t now that the walk has come to k: what the next step does, and what is so where there is none.
 module _ (s t : Shelf) (k : ℕ) (i : t ≡ shelf_to k s) where
   same_next : (o : Option ℕ) → o ≡ next t.rows k → next s.rows k ≡ o
   same_next o e = sym (e ∙ ap (λ (u : Shelf). next u.rows k) i ∙ next_calm k s.rows)
 
-  pub shelf_step : (n : ℕ) → Rising 255 s.rows → Some n ≡ next t.rows k → calmed_at t (lookup t.rows n) ≡ shelf_to n s
+  pub shelf_step : (n : ℕ) → Rising last_reserved s.rows → Some n ≡ next t.rows k → calmed_at t (lookup t.rows n) ≡ shelf_to n s
   shelf_step n h e =
-      let g = calm_next 255 s.rows k n h (same_next (Some n) e) in
+      let g = calm_next last_reserved s.rows k n h (same_next (Some n) e) in
       let x = calmed_row g.0 in
       let o : n ≡ x.own = sym (lookup_own (calm_to k s.rows) n g.0 g.1) in
       let p : has (calm_to k s.rows) x.own ≡ true = sym (ap (has (calm_to k s.rows)) o) ∙ ap is_some g.1 in
       rw (i, g.1) (ap (λ y. y.1) (write_done (shelf_to k s) x p) ∙ ap (λ ys. record { rows = ys; most = s.most }) g.2)
 
   -- after it fewer rows are to come
-  pub fewer : (n : ℕ) → Rising 255 s.rows → Some n ≡ next t.rows k → length (after s.rows n) < length (after s.rows k)
+  pub fewer : (n : ℕ) → Rising last_reserved s.rows → Some n ≡ next t.rows k → length (after s.rows n) < length (after s.rows k)
   fewer n h e =
       let f = same_next (Some n) e in
-      let g = next_some 255 s.rows k n h f in
-      omega (arith, ap length (after_step 255 s.rows k n g.0 h f g.1))
+      let g = next_some last_reserved s.rows k n h f in
+      omega (arith, ap length (after_step last_reserved s.rows k n g.0 h f g.1))
 
   pub shelf_done : None ≡ next t.rows k → t ≡ calm_shelf s
   shelf_done e = i ∙ ap (λ ys. record { rows = ys; most = s.most }) (calm_done k s.rows (same_next None e))

@@ -1,5 +1,4 @@
-pub mod Filing
-pub mod Asking
+pub mod Nonces
 pub mod Calming
 pub mod Checking
 pub mod Hearing

@@ -1,11 +1,8 @@
 -- An ask that has begun: what it sends is outstanding, and has not gone out yet.
 use Rattle.std.specs.Prelude.{◌≡◌, ℕ, List, [], Some, None, Ok, Err, Option, Result}
 use Rattle.calls.specs.declared.refusals.AskRefusal.{AskRefusal}
-use Rattle.law.specs.Ends.{End, Outstanding, sending}
-use Rattle.book.specs.declared.row.Row.{Row}
-use Rattle.wire.specs.declared.message.Request.TheVariants as request
-use Rattle.law.specs.declared.kinds.Kind.TheVariants as kind
-use Rattle.law.specs.Asks.{Asked, doing, closing}
+use Rattle.law.specs.Ends.{End, Outstanding}
+use Rattle.law.specs.Asks.{Asked}
 
 abbrev pub outstanding_octets : Option Outstanding → List ℕ
 outstanding_octets None = []
@@ -27,10 +24,3 @@ pub record Begun (asked : Asked) (r : Result (Unit {0}) AskRefusal) (e e' : End)
   pub side : e'.side ≡ e.side
   pub refused : (f : AskRefusal) → r ≡ Err f → e' ≡ e
   pub busy : r ≡ Ok tt → e'.outstanding ≡ None → ⊥
-
--- what a delete does and what a check does, where they are not refused
-abbrev pub deleting : End → Row → Asked
-deleting e r = Ok (closing e r e.shelf)
-
-abbrev pub checking : End → Asked
-checking e = doing e request.Empty (sending e e.shelf e.spi kind.Check 0 0 request.Empty)

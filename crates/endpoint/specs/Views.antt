@@ -51,9 +51,9 @@ spared None = 0
 spared (Some o) = kept_back o.kind
 
 -- each row has an initiator's nonce of 16 to 32 octets
-abbrev pub Filed : List Row → Type 0
-Filed [] = Unit {0}
-Filed (r ∷ rs) = (nonce_long (kept_octets r.ni) ≡ true) × Filed rs
+abbrev pub NoncesLong : List Row → Type 0
+NoncesLong [] = Unit {0}
+NoncesLong (r ∷ rs) = (nonce_long (kept_octets r.ni) ≡ true) × NoncesLong rs
 
 -- IDs and SPIs run to 2 ^ 32 - 1, or are spent; an ID is left for each Delete that is still to come. Only an outstanding
 -- request has recorded a collision.
@@ -61,5 +61,5 @@ pub record Kept {B : Type 0} (shelf : B → Shelf) (e : Inside B) : Type 0 where
   pub next : e.next + spared e.outstanding ≤ 2 ^ 32
   pub expected : e.expected ≤ 2 ^ 32
   pub spi : e.spi ≤ 2 ^ 32
-  pub filed : Filed (shelf e.book).rows
+  pub nonces : NoncesLong (shelf e.book).rows
   pub alone : e.outstanding ≡ None → e.collision ≡ None

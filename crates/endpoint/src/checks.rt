@@ -3,9 +3,9 @@ ghost use Rattle.std.specs.Prelude.{◌≡◌, ◌+◌, ◌<◌, ◌≤◌, ◌^
 ghost use Rattle.nonce.specs.Nonces.{nonce_long};
 ghost use Rattle.book.specs.Rows.{kept_octets};
 ghost use Rattle.calls.specs.declared.refusals.AskRefusal.TheVariants as refusal;
-ghost use Rattle.law.specs.Asks.{Asked, Doing, where_holds, by_state, creating, create_asked, rekeying, rekey_asked, closing, delete_asked, check_asked, has_room};
+ghost use Rattle.law.specs.Asks.{Asked, Doing, where_holds, by_state, creating, create_asked, rekeying, rekey_asked, closing, deleting, delete_asked, checking, check_asked, has_room};
 ghost use Rattle.law.specs.Ends.{is_quiet, is_spent};
-ghost use Rattle.endpoint.specs.Begun.{passing, checking, deleting};
+ghost use Rattle.endpoint.specs.Begun.{passing};
 
 use crate::Endpoint;
 use book::Book;

@@ -8,6 +8,7 @@ use book::Book;
 use calls::making::Making;
 use calls::refusals::MakingRefusal;
 use nonce::side::Side;
+use nonce::spi::LOWEST_SPI;
 use wire::encode::Octets;
 
 /// No end was made, for this reason; its book is given back.
@@ -24,7 +25,7 @@ fn refusal_of<B: Book>(making: &Making, book: &B) -> Option<MakingRefusal>
     if book.len() != 0 {
         return Some(MakingRefusal::BookNotEmpty);
     }
-    if making.a.spi < 256 || making.b.spi < 256 {
+    if making.a.spi < LOWEST_SPI || making.b.spi < LOWEST_SPI {
         return Some(MakingRefusal::ReservedSpi);
     }
     None

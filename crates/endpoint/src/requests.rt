@@ -19,6 +19,7 @@ use calls::refusals::DeliverRefusal;
 use law::kinds::Kind;
 use nonce::Nonce;
 use nonce::order::Exchanged;
+use nonce::spi::LOWEST_SPI;
 use wire::message::{Body, Failure, Message, Request, Response};
 
 impl<B: Book> Endpoint<B> {
@@ -58,7 +59,7 @@ impl<B: Book> Endpoint<B> {
     pub(crate) fn is_unusable(&self, peer: u32) -> bool
         ensures { result ≡ unusable self.now.shelf.rows peer }
     {
-        peer < 256 || self.book.find(peer).is_some()
+        peer < LOWEST_SPI || self.book.find(peer).is_some()
     }
 
     /// Whether there is no room in the book, or no own SPI.
@@ -177,7 +178,7 @@ impl<B: Book> Endpoint<B> {
     }
 
     /// A request of the peer: the expected one is answered; the one before it gets the stored reply again.
-    #[tactic(auto, using(crate::proofs::Filing::filed_calm), unfolding(law::specs::Requests::answered))]
+    #[tactic(auto, using(crate::proofs::Nonces::nonces_calm), unfolding(law::specs::Requests::answered))]
     pub(crate) fn hear_request(&mut self, id: u32, request: Request<Nonce>, nr: &Nonce) -> Reaction
         ensures heard { request_heard self.old nr.now id request ≡ heard_by result self.new }
         ensures stays { Stays result self.old self.new }

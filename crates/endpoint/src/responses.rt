@@ -35,7 +35,7 @@ impl<B: Book> Endpoint<B> {
     }
 
     /// The row of this own SPI is dropped, and the end is quiet.
-    fn give_up(&mut self, own: u32) -> Says
+    fn drop_row(&mut self, own: u32) -> Says
         ensures { SettledAs (rests self.old (without self.old.shelf own)) result self.new }
     {
         self.discard(own);
@@ -122,10 +122,10 @@ impl<B: Book> Endpoint<B> {
             }
             (Some((Kind::Rekey, o)), Response::Failed(Failure::ChildSaNotFound { .. })) => {
                 self.discard(o.own);
-                self.give_up(o.old)
+                self.drop_row(o.old)
             }
             (Some((Kind::Check, _)), _) => self.rest(),
-            (Some((_, o)), _) => self.give_up(o.own),
+            (Some((_, o)), _) => self.drop_row(o.own),
         };
         Reaction::Done(says)
     }

@@ -1,7 +1,7 @@
 //! The rows that an end files, and how it changes its book.
 ghost use Rattle.std.specs.Prelude.{◌≡◌, ◌<◌, ◌^◌, true, IfSome};
 ghost use Rattle.nonce.specs.Nonces.{nonce_long};
-ghost use Rattle.book.specs.Rows.{kept, kept_octets};
+ghost use Rattle.book.specs.Rows.{kept_octets};
 ghost use Rattle.book.specs.Shelves.{lookup};
 ghost use Rattle.law.specs.Rows.{opening_row, fresh_row, made_row, in_state, rewritten, without};
 ghost use Rattle.endpoint.specs.Changes.{with_shelf, filing};
@@ -10,16 +10,6 @@ use crate::Endpoint;
 use book::Book;
 use book::row::{Beginner, KeptNonce, Row, RowState, Spis};
 use nonce::Nonce;
-
-/// A nonce as a row keeps it.
-fn kept(nonce: &Nonce) -> KeptNonce
-    ensures value { result ≡ kept nonce.now }
-    ensures long { nonce_long (kept_octets result) ≡ true }
-{
-    // only a nonce that is looked at shows that it has 16 to 32 octets
-    let _octets = nonce.as_slice();
-    KeptNonce::from(nonce)
-}
 
 /// Requested here, with this nonce.
 pub(crate) fn opening_row(own: u32, parent: Spis, ni: &Nonce) -> Row
@@ -32,7 +22,7 @@ pub(crate) fn opening_row(own: u32, parent: Spis, ni: &Nonce) -> Row
         state: RowState::Opening,
         began: Beginner::ThisEnd,
         parent,
-        ni: kept(ni),
+        ni: KeptNonce::from(ni),
         nr: KeptNonce {
             octets: [0; 32],
             len: 0,
@@ -51,14 +41,14 @@ pub(crate) fn fresh_row(own: u32, peer: u32, parent: Spis, ni: &Nonce, nr: &Nonc
         state: RowState::Fresh,
         began: Beginner::Peer,
         parent,
-        ni: kept(ni),
+        ni: KeptNonce::from(ni),
         nr: KeptNonce::from(nr),
     }
 }
 
 /// An Opening row once the peer has made the SA, under its SPI and with its nonce.
 pub(crate) fn made_row(row: Row, peer: u32, nr: &Nonce) -> Row
-    ensures { result ≡ made_row RowState.Standing peer nr.now row }
+    ensures { result ≡ made_row peer nr.now row }
 {
     Row {
         peer,
@@ -77,7 +67,7 @@ pub(crate) fn in_state(row: Row, state: RowState) -> Row
 
 impl<B: Book> Endpoint<B> {
     /// The row of an own SPI.
-    #[tactic(auto, using(crate::proofs::Filing::filed_lookup))]
+    #[tactic(auto, using(crate::proofs::Nonces::nonces_lookup))]
     pub(crate) fn row(&self, own: u32) -> Option<Row>
         ensures value { result ≡ lookup self.now.shelf.rows own }
         ensures long { IfSome result (λ r. nonce_long (kept_octets r.ni) ≡ true) }
@@ -86,7 +76,7 @@ impl<B: Book> Endpoint<B> {
     }
 
     /// Adds a row under the next own SPI, which is used up.
-    #[tactic(auto, using(crate::proofs::Filing::filed_put))]
+    #[tactic(auto, using(crate::proofs::Nonces::nonces_put))]
     pub(crate) fn file(&mut self, row: Row)
         requires left { self.old.spi < 2 ^ 32 }
         requires long { nonce_long (kept_octets row.ni) ≡ true }
@@ -97,7 +87,7 @@ impl<B: Book> Endpoint<B> {
     }
 
     /// Puts a row in the place of the one of its own SPI.
-    #[tactic(auto, using(crate::proofs::Filing::filed_write))]
+    #[tactic(auto, using(crate::proofs::Nonces::nonces_write))]
     pub(crate) fn rewrite(&mut self, row: Row)
         requires { nonce_long (kept_octets row.ni) ≡ true }
         ensures { self.new ≡ with_shelf self.old (rewritten self.old.shelf row) }
@@ -106,7 +96,7 @@ impl<B: Book> Endpoint<B> {
     }
 
     /// Drops the row of an own SPI, if there is one. This is the one place where an end drops a row.
-    #[tactic(auto, using(crate::proofs::Filing::filed_without))]
+    #[tactic(auto, using(crate::proofs::Nonces::nonces_without))]
     pub(crate) fn discard(&mut self, own: u32)
         ensures { self.new ≡ with_shelf self.old (without self.old.shelf own) }
     {

@@ -3,7 +3,6 @@ ghost use Rattle.std.specs.Prelude.{◌≡◌};
 ghost use Rattle.std.specs.Option.{option_map};
 ghost use Rattle.law.specs.Effects.{Comes, Replies};
 ghost use Rattle.endpoint.specs.Reactions.{said};
-ghost use Rattle.channel.specs.Meaning.{other as across};
 
 use crate::Endpoint;
 use crate::reaction::Says;
@@ -11,16 +10,6 @@ use book::Book;
 use channel::channel::Channel;
 use channel::sent::Sent;
 use nonce::side::Side;
-
-/// The end across.
-fn other(side: Side) -> Side
-    ensures { result ≡ across side }
-{
-    match side {
-        Side::A => Side::B,
-        Side::B => Side::A,
-    }
-}
 
 /// What has come to an end, if anything.
 pub(crate) fn take<'a, C: Channel>(
@@ -45,7 +34,7 @@ impl<B: Book> Endpoint<B> {
             Says::Request => self.outstanding.and(Some(&self.request)),
         };
         match octets {
-            Some(octets) => channel.send(other(self.side), octets.as_slice()),
+            Some(octets) => channel.send(self.side.other(), octets.as_slice()),
             None => Sent::Taken,
         }
     }

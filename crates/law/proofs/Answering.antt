@@ -3,6 +3,7 @@ use Rattle.std.proofs.Common.{◌≡◌, ℕ, suc, ◌^◌, ◌<◌, Bool, true,
 use Rattle.std.proofs.lemmas.Bool.{cond-false, ne_eqb, leb-false, or_parts}
 use Rattle.std.proofs.lemmas.Bool.Decides.{nat_tests}
 use Rattle.nonce.specs.Nonces.{nonce_long}
+use Rattle.nonce.specs.Spis.{last_reserved}
 use Rattle.book.specs.Rows.{kept, kept_octets}
 use Rattle.book.specs.Shelves as shelf
 use Rattle.book.specs.Shelves.{Shelf, Rising, has}
@@ -22,13 +23,12 @@ use Rattle.protocol.specs.Node as nodes
 use Rattle.protocol.specs.Node.{Bar, unusable, no_more, Out, idle, asked, Node}
 use Rattle.protocol.specs.Rows.{Line, insert, remove, calm_lines, Found, nowhere, at, find}
 use Rattle.line.specs.Calls as calls
-use Rattle.law.specs.Cells.{sa_of, cell_of, lines}
 use Rattle.law.specs.Ends.{End, Outstanding, Collision, is_spent, response_octets}
 use Rattle.law.specs.Asks.{Doing}
 use Rattle.law.specs.Rows.{none, fresh_row, in_state, calm_shelf, with_row, rewritten, without}
 use Rattle.law.specs.Requests as requests
 use Rattle.law.specs.Requests.{found, answered}
-use Rattle.law.proofs.Cells.{lines_calm, lines_insert, lines_find, found_by, found_as}
+use Rattle.law.proofs.Cells.{sa_of, cell_of, lines, lines_calm, lines_insert, lines_find, found_by, found_as}
 use Rattle.law.proofs.Dropping.{lines_without, rising_without, below_without, begun_without}
 use Rattle.law.proofs.Finding.{Shows, found_shows, Ready, shows_ready}
 use Rattle.law.proofs.Asking.{kept_back, write_new, lines_rewritten, rising_rewritten, below_rewritten, begun_rewritten}
@@ -97,7 +97,7 @@ put_lines rs x k c ls absent own cell l =
 module _ (e : End) (said : Option (Response (List ℕ))) (busy : Out) (n : List ℕ) (t : Tied e said busy) where
   says_answers :
       (q : Request (List ℕ)) (s : Shelf) (r : Response (List ℕ)) (bar : Option Bar) (ls : List Line) →
-      (bar ≡ None → e.spi < 2 ^ 32) → lines s.rows ≡ ls → Rising 255 s.rows → Below e.spi s.rows →
+      (bar ≡ None → e.spi < 2 ^ 32) → lines s.rows ≡ ls → Rising last_reserved s.rows → Below e.spi s.rows →
       Begun s.rows → nodes.replying (node e said busy) r ls e.spi ≡ calls.answer_wire (node e said busy) n bar q →
       Answers e said busy n q (requests.says_only e s r)
   says_answers q s r bar ls spare l rising below begun h = record {
@@ -116,15 +116,15 @@ module _ (e : End) (said : Option (Response (List ℕ))) (busy : Out) (n : List 
   unfolding answered
   empty_answers =
       says_answers request.Empty (calm_shelf e.shelf) response.Empty (Some no_more) (calm_lines (lines e.shelf.rows))
-      (λ y. let z : ◌≡◌ {A = ℕ} 0 1 = cc in absurd (omega arith)) (lines_calm e.shelf.rows) (rising_calm 255 e.shelf.rows t.rising)
+      (λ y. let z : ◌≡◌ {A = ℕ} 0 1 = cc in absurd (omega arith)) (lines_calm e.shelf.rows) (rising_calm last_reserved e.shelf.rows t.rising)
       (below_calm e.spi e.shelf.rows t.below) (begun_calm e.shelf.rows t.begun) refl
 
   -- the book once Fresh rows are Standing
   abbrev calmer : Shelf
   calmer = calm_shelf e.shelf
 
-  calm_rising : Rising 255 calmer.rows
-  calm_rising = rising_calm 255 e.shelf.rows t.rising
+  calm_rising : Rising last_reserved calmer.rows
+  calm_rising = rising_calm last_reserved e.shelf.rows t.rising
 
   calm_below : Below e.spi calmer.rows
   calm_below = below_calm e.spi e.shelf.rows t.below
@@ -135,7 +135,7 @@ module _ (e : End) (said : Option (Response (List ℕ))) (busy : Out) (n : List 
   -- a new SA, for which there is room: these rows, and the request as it is then
   making_answers :
       (q : Request (List ℕ)) (s : Shelf) (x : Row) (o : Option Outstanding) (after : Out) (d : Seed) (peer : ℕ) (ls : List Line) →
-      x.own ≡ e.spi → cell_of x ≡ live fresh (born peer d n) → RowBegun x → Rising 255 s.rows → Below e.spi s.rows →
+      x.own ≡ e.spi → cell_of x ≡ live fresh (born peer d n) → RowBegun x → Rising last_reserved s.rows → Below e.spi s.rows →
       Begun s.rows → requests.no_more e s ≡ false → lines s.rows ≡ ls → OutTied e o after →
       nodes.making (node e said busy) ls peer d n after ≡ calls.answer_wire (node e said busy) n None q →
       Answers e said busy n q (requests.says e (with_row s x) (suc e.spi) o (response.NewSa e.spi n))
@@ -166,7 +166,7 @@ module _ (e : End) (said : Option (Response (List ℕ))) (busy : Out) (n : List 
         tied = record {
           reply = (e.expected, refl, refl);
           out = out;
-          rising = rw put (rising_insert 255 s.rows x (omega (arith, own, t.least)) absent rising);
+          rising = rw put (rising_insert last_reserved s.rows x (omega (arith, own, t.least)) absent rising);
           below =
               rw put
               (below_insert (suc e.spi) s.rows x (omega (arith, own)) (below_more e.spi (suc e.spi) s.rows (omega arith) below));
@@ -209,7 +209,7 @@ module _ (e : End) (said : Option (Response (List ℕ))) (busy : Out) (n : List 
 
   -- what the node finds by a peer SPI
   node_finds : (p : ℕ) (f : Option Row) → found calmer.rows p ≡ f → find p (calm_lines (lines e.shelf.rows)) ≡ found_as f
-  node_finds p f h = ap (find p) (sym calm_lined) ∙ lines_find 255 calmer.rows p calm_rising ∙ ap found_as h
+  node_finds p f h = ap (find p) (sym calm_lined) ∙ lines_find last_reserved calmer.rows p calm_rising ∙ ap found_as h
 
   -- a delete, by the state of the row
   abbrev deleted : Found → Node
@@ -276,7 +276,7 @@ module _ (e : End) (said : Option (Response (List ℕ))) (busy : Out) (n : List 
   rekey_makes old peer ni r i k y z m =
       let x = in_state state.Superseded r in
       let here : has calmer.rows x.own ≡ true = ap is_some y.here in
-      let above : 255 < r.own = above_start 255 calmer.rows r.own r calm_rising y.here in
+      let above : last_reserved < r.own = above_start last_reserved calmer.rows r.own r calm_rising y.here in
       let heir : eqb r.own 0 ≡ false = ne_eqb r.own 0 (λ w. omega arith) in
       let room : requests.no_more e (rewritten calmer x) ≡ false =
       ap (requests.no_more e) (write_new calmer x calm_rising here)

@@ -3,6 +3,7 @@ use Rattle.std.proofs.Common.{◌≡◌, ℕ, suc, ◌^◌, ◌<◌, ◌≤◌, 
 use Rattle.std.proofs.lemmas.Bool.{ne_eqb, not-true, leb-false, both_ways}
 use Rattle.std.proofs.lemmas.Bool.Decides.{nat_tests}
 use Rattle.nonce.specs.Nonces.{nonce_long}
+use Rattle.nonce.specs.Spis.{last_reserved, lowest_spi}
 use Rattle.book.specs.Rows.{kept, kept_octets}
 use Rattle.book.specs.Shelves as shelf
 use Rattle.book.specs.Shelves.{Shelf, Rising, has}
@@ -18,7 +19,6 @@ use Rattle.protocol.specs.Model.{Seed, opening, live, standing, closing, Ask, cr
 use Rattle.protocol.specs.Node.{idle, asked, sending}
 use Rattle.protocol.specs.Rows.{lookup, insert}
 use Rattle.line.specs.Calls.{Want, to_create, to_rekey, to_delete, to_check, ask, wire}
-use Rattle.law.specs.Cells.{sa_of, cell_of, cell_in, lines}
 use Rattle.law.specs.Ends.{End, Outstanding, is_quiet, is_spent, request_octets}
 use Rattle.law.specs.Rows.{none, opening_row, in_state, with_row, rewritten}
 use Rattle.law.specs.Asks.{Asked, Doing, where_holds, has_room, create_asked, rekey_asked, delete_asked, check_asked}
@@ -29,7 +29,7 @@ use Rattle.std.proofs.lemmas.List.{take_at}
 use Rattle.law.specs.Asks as asks
 use Rattle.law.specs.Asks.{by_state, of_row}
 use Rattle.calls.specs.declared.refusals.AskRefusal.{AskRefusal}
-use Rattle.law.proofs.Cells.{lines_lookup, lines_insert, lines_replace}
+use Rattle.law.proofs.Cells.{sa_of, cell_of, cell_in, lines, lines_lookup, lines_insert, lines_replace}
 use Rattle.law.proofs.Tied.{node, Tied, SameName, Below, RowBegun, Begun, below_absent, below_more, below_insert, below_replace, begun_insert, begun_replace}
 
 -- a nonce in a row is what was put there
@@ -82,7 +82,7 @@ check_asks e said d t h =
     )
 
 -- a row with the next own SPI
-module _ (e : End) (x : Row) (own : x.own ≡ e.spi) (rising : Rising 255 e.shelf.rows) (below : Below e.spi e.shelf.rows) (least : 256 ≤ e.spi) (room : has_room e.shelf ≡ true) where
+module _ (e : End) (x : Row) (own : x.own ≡ e.spi) (rising : Rising last_reserved e.shelf.rows) (below : Below e.spi e.shelf.rows) (least : lowest_spi ≤ e.spi) (room : has_room e.shelf ≡ true) where
   absent : has e.shelf.rows x.own ≡ false
   absent = rw own (below_absent e.spi e.shelf.rows below)
 
@@ -94,8 +94,8 @@ module _ (e : End) (x : Row) (own : x.own ≡ e.spi) (rising : Rising 255 e.shel
   lines_new : lines (with_row e.shelf x).rows ≡ insert e.spi (cell_of x) (lines e.shelf.rows)
   lines_new = ap (λ s. lines s.rows) put_new ∙ lines_insert e.shelf.rows x absent ∙ ap (λ k. insert k (cell_of x) (lines e.shelf.rows)) own
 
-  rising_new : Rising 255 (with_row e.shelf x).rows
-  rising_new = rw put_new (rising_insert 255 e.shelf.rows x (omega (arith, own)) absent rising)
+  rising_new : Rising last_reserved (with_row e.shelf x).rows
+  rising_new = rw put_new (rising_insert last_reserved e.shelf.rows x (omega (arith, own)) absent rising)
 
   below_new : Below (suc e.spi) (with_row e.shelf x).rows
   below_new =
@@ -196,7 +196,7 @@ rekey_asks e said own n d t calm h =
     } in
     let z : given ≡ d = cc in
     let k : r.own ≡ own = lookup_own e.shelf.rows own r f.1 in
-    let above : 255 < own = above_start 255 e.shelf.rows own r t.rising f.1 in
+    let above : last_reserved < own = above_start last_reserved e.shelf.rows own r t.rising f.1 in
     let seed : Seed = calls.seed_of own r.peer n in
     let nz : eqb own 0 ≡ false = ne_eqb own 0 (λ y. omega arith) in
     let c : cell_of x ≡ opening seed = rw (k, nz, kept_back n o.0) in
@@ -231,15 +231,15 @@ rekey_asks e said own n d t calm h =
     )
 
 -- a row that is present is rewritten
-module _ (s : Shelf) (x : Row) (rising : Rising 255 s.rows) (here : has s.rows x.own ≡ true) where
+module _ (s : Shelf) (x : Row) (rising : Rising last_reserved s.rows) (here : has s.rows x.own ≡ true) where
   pub write_new : rewritten s x ≡ record { rows = shelf.replace s.rows x; most = s.most }
   write_new = ap (λ p. p.1) (write_done s x here)
 
   pub lines_rewritten : lines (rewritten s x).rows ≡ insert x.own (cell_of x) (lines s.rows)
-  lines_rewritten = ap (λ y. lines y.rows) write_new ∙ lines_replace 255 s.rows x rising here
+  lines_rewritten = ap (λ y. lines y.rows) write_new ∙ lines_replace last_reserved s.rows x rising here
 
-  pub rising_rewritten : Rising 255 (rewritten s x).rows
-  rising_rewritten = rw write_new (rising_replace 255 s.rows x rising)
+  pub rising_rewritten : Rising last_reserved (rewritten s x).rows
+  rising_rewritten = rw write_new (rising_replace last_reserved s.rows x rising)
 
   pub below_rewritten : (k : ℕ) → Below k s.rows → Below k (rewritten s x).rows
   below_rewritten k b = rw write_new (below_replace k s.rows x b)

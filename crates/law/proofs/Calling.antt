@@ -1,9 +1,9 @@
 -- An ask or a resend of an end is one of its node.
 use Rattle.std.proofs.Common.{◌≡◌, ℕ, ◌^◌, ◌<◌, List, Some, None, Ok, Err, Option, Result, sym, refl, ◌∙◌, subst, arith}
 use Rattle.nonce.specs.declared.side.Side.{Side}
+use Rattle.nonce.specs.Sides.{other}
 use Rattle.channel.specs.Behaviour.{Behaviour}
 use Rattle.channel.specs.Behaviour as channel
-use Rattle.channel.specs.Meaning.{other}
 use Rattle.channel.specs.declared.sent.Sent.{Sent as Taking}
 use Rattle.calls.specs.declared.answers.Answer.{Answer}
 use Rattle.calls.specs.declared.answers.Answer.TheVariants as answers

@@ -1,20 +1,64 @@
--- What is done to rows is done to their cells.
-use Rattle.std.proofs.Common.{◌≡◌, ℕ, ◌≤◌, Bool, true, false, cond, not, ◌&&◌, eqb, List, [], ◌∷◌, is_some, Some, None, Option, sym, refl, ap, ◌∙◌, arith}
+-- The rows of a book, as the protocol of two ends sees them: its cells. What is done to rows is done to their cells.
+use Rattle.std.proofs.Common.{◌≡◌, ℕ, ◌≤◌, Bool, true, false, cond, not, ◌&&◌, eqb, List, [], ◌∷◌, is_some, Some, None, Option, sym, refl, ap, ◌∙◌, arith, ◌==◌}
 use Rattle.std.proofs.lemmas.Bool.Decides.{nat_tests}
 use Rattle.book.specs.Shelves as shelf
 use Rattle.book.specs.Shelves.{Rising, has}
 use Rattle.book.specs.declared.row.Row.{Row}
 use Rattle.book.specs.declared.row.RowState.{RowState}
 use Rattle.book.specs.declared.row.RowState.TheVariants as state
-use Rattle.protocol.specs.Model.{fresh, standing, superseded, closing}
-use Rattle.protocol.specs.Rows.{lookup, insert, remove, calm_lines, calmed_cell, find, here_or, Found, nowhere, at}
-use Rattle.law.specs.Cells.{sa_of, cell_of, cell_by, cell_in, lines}
+use Rattle.protocol.specs.Model.{fresh, standing, superseded, closing, Sa, Seed, Cell, opening, live}
+use Rattle.protocol.specs.Rows.{lookup, insert, remove, calm_lines, calmed_cell, find, here_or, Found, nowhere, at, Line}
 use Rattle.law.specs.Requests.{row_at, found}
-use Rattle.book.specs.Rows.{is_opening}
+use Rattle.book.specs.Rows.{is_opening, kept_octets}
 use Rattle.book.proofs.Lookups.{lookup_below}
 use Rattle.book.proofs.Firsts.{find_some, above_start}
+use Rattle.book.specs.declared.row.Beginner.{Beginner}
+use Rattle.book.specs.declared.row.Beginner.TheVariants.{ThisEnd, Peer}
 use Rattle.std.proofs.lemmas.Bool.{true≢false, ne_eqb, eq-eqb}
 use Rattle.law.specs.Rows.{in_state, calmed, calm}
+
+abbrev pub is_mine : Beginner → Bool
+is_mine ThisEnd = true
+is_mine Peer = false
+
+-- own SPIs are not reserved, so that a row has a parent where its parent's own SPI is not 0
+abbrev pub is_heir : Row → Bool
+is_heir r = not (r.parent.own == 0)
+
+abbrev pub seed_of : Row → Seed
+seed_of r = record { heir = is_heir r; po = r.parent.own; pp = r.parent.peer; ni = kept_octets r.ni }
+
+abbrev pub sa_of : Row → Sa
+sa_of r = record {
+  peer = r.peer;
+  mine = is_mine r.began;
+  heir = is_heir r;
+  po = r.parent.own;
+  pp = r.parent.peer;
+  ni = kept_octets r.ni;
+  nr = kept_octets r.nr;
+}
+
+abbrev pub cell_by : RowState → Row → Cell
+cell_by state.Opening r = opening (seed_of r)
+cell_by state.Fresh r = live fresh (sa_of r)
+cell_by state.Standing r = live standing (sa_of r)
+cell_by state.Superseded r = live superseded (sa_of r)
+cell_by state.Closing r = live closing (sa_of r)
+
+abbrev pub cell_of : Row → Cell
+cell_of r = cell_by r.state r
+
+abbrev pub line_of : Row → Line
+line_of r = record { key = r.own; cell = cell_of r }
+
+abbrev pub lines : List Row → List Line
+lines [] = []
+lines (r ∷ rs) = line_of r ∷ lines rs
+
+abbrev pub cell_in : Option Row → Option Cell
+cell_in None = None
+cell_in (Some r) = Some (cell_of r)
 
 pub lines_lookup : (rs : List Row) (k : ℕ) → lookup (lines rs) k ≡ cell_in (shelf.lookup rs k)
 lines_lookup [] k = refl

@@ -2,6 +2,7 @@
 use Rattle.std.proofs.Common.{◌≡◌, ℕ, true, false, List, [], ◌∷◌, Some, None, Option, sym, refl, ap, ◌∙◌, arith}
 use Rattle.std.proofs.lemmas.Bool.{both_ways}
 use Rattle.std.specs.List.{AllByRecursion as All}
+use Rattle.nonce.specs.Spis.{last_reserved}
 use Rattle.book.specs.Rows.{is_opening}
 use Rattle.book.specs.Shelves.{Rising, lookup, find}
 use Rattle.book.proofs.Firsts.{find_some}
@@ -20,10 +21,10 @@ pub record Shows (rs : List Row) (p : ℕ) (r : Row) : Type 0 where
   pub live : is_opening r.state ≡ false
 
 shows_at :
-    (rs : List Row) (p : ℕ) (q : Option ℕ) (r : Row) → Rising 255 rs → find rs p ≡ q → row_at rs q ≡ Some r → Shows rs p r
+    (rs : List Row) (p : ℕ) (q : Option ℕ) (r : Row) → Rising last_reserved rs → find rs p ≡ q → row_at rs q ≡ Some r → Shows rs p r
 shows_at rs p None r s e h = let z : ◌≡◌ {A = ℕ} 0 1 = cc in absurd (omega arith)
 shows_at rs p (Some k) r s e h =
-    let f = find_some 255 rs p k s e in
+    let f = find_some last_reserved rs p k s e in
     let x : f.0 ≡ r = cc f.1 in
     record {
       here = ap (lookup rs) (lookup_own rs k r h) ∙ h;
@@ -31,7 +32,7 @@ shows_at rs p (Some k) r s e h =
       live = sym (ap (λ y. is_opening y.state) x) ∙ f.3;
     }
 
-pub found_shows : (rs : List Row) (p : ℕ) (r : Row) → Rising 255 rs → found rs p ≡ Some r → Shows rs p r
+pub found_shows : (rs : List Row) (p : ℕ) (r : Row) → Rising last_reserved rs → found rs p ≡ Some r → Shows rs p r
 found_shows rs p r s h = shows_at rs p (find rs p) r s refl h
 
 -- the states of what is found in a book in which no row is Fresh

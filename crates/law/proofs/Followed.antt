@@ -2,6 +2,7 @@
 use Rattle.std.proofs.Common.{◌≡◌, ℕ, ◌^◌, ◌<◌, false, List, [], ◌∷◌, Some, None, Option, sym, refl, ap, ◌∙◌, subst, inl, inr, ⊎_elim, arith}
 use Rattle.nonce.specs.declared.side.Side.{Side}
 use Rattle.nonce.specs.declared.side.Side.TheVariants.{A, B}
+use Rattle.nonce.specs.Sides.{other}
 use Rattle.book.specs.Rows.{is_opening}
 use Rattle.book.specs.Shelves as shelf
 use Rattle.book.specs.declared.row.Beginner.{Beginner}
@@ -10,7 +11,6 @@ use Rattle.book.specs.declared.row.Row.{Row}
 use Rattle.book.specs.declared.row.RowState.{RowState}
 use Rattle.book.specs.declared.row.RowState.TheVariants as state
 use Rattle.channel.specs.Behaviour.{Behaviour}
-use Rattle.channel.specs.Meaning.{other}
 use Rattle.calls.specs.declared.answers.Answer.{Answer}
 use Rattle.calls.specs.declared.moves.Move.{Move}
 use Rattle.wire.specs.declared.message.Response.{Response}
@@ -26,12 +26,11 @@ use Rattle.line.specs.World as line
 use Rattle.line.proofs.Codes.{coding}
 use Rattle.line.proofs.Runs.{Alive, step_alive}
 use Rattle.line.proofs.Tidy.{tidy_alive}
-use Rattle.law.specs.Cells.{is_mine, sa_of, cell_by, cell_of, cell_in, lines}
 use Rattle.law.specs.Ends.{End}
 use Rattle.law.specs.Runs.{World, at, Called, Step, Run, ever}
 use Rattle.law.specs.Laws.{MadeAt}
 use Rattle.law.proofs.Calling.{call_of, answer_of}
-use Rattle.law.proofs.Cells.{lines_lookup}
+use Rattle.law.proofs.Cells.{is_mine, sa_of, cell_by, cell_of, cell_in, lines, lines_lookup}
 use Rattle.law.proofs.Sending.{Named}
 use Rattle.law.proofs.Simulated.{called_does}
 use Rattle.law.proofs.Tied.{node, Tied, RowBegun, all_lookup, theirs_made}

@@ -3,6 +3,7 @@ use Rattle.std.proofs.Common.{◌≡◌, ℕ, ◌^◌, ◌<◌, ◌≤◌, Bool,
 use Rattle.std.proofs.lemmas.Bool.{ne_eqb, eq-eqb, not-true, not_from_false, true≢false}
 use Rattle.nonce.specs.declared.side.Side.{Side}
 use Rattle.nonce.specs.declared.side.Side.TheVariants.{A, B}
+use Rattle.nonce.specs.Sides.{other, is_side}
 use Rattle.book.specs.Rows.{is_opening, kept_octets, nr_octets, mirrors, Mirror}
 use Rattle.book.specs.Shelves as shelf
 use Rattle.book.proofs.Lookups.{lookup_own}
@@ -13,7 +14,7 @@ use Rattle.book.specs.declared.row.Row.{Row}
 use Rattle.book.specs.declared.row.RowState.{RowState}
 use Rattle.book.specs.declared.row.RowState.TheVariants as state
 use Rattle.channel.specs.Behaviour.{Behaviour}
-use Rattle.channel.specs.Meaning.{Sound, other}
+use Rattle.channel.specs.Meaning.{Sound}
 use Rattle.calls.specs.declared.answers.Answer.{Answer}
 use Rattle.calls.specs.declared.answers.Answer.TheVariants as answer
 use Rattle.calls.specs.declared.answers.Delivered.TheVariants.{Done, Again}
@@ -26,7 +27,6 @@ use Rattle.calls.specs.declared.refusals.DeliverRefusal.TheVariants as refusal
 use Rattle.protocol.specs.Invariant as invariant
 use Rattle.protocol.specs.Law.{SameIn}
 use Rattle.protocol.specs.Model.{St, Sa, Cell, live, mirror, lose}
-use Rattle.protocol.specs.Model as model
 use Rattle.protocol.specs.Node.{Out, idle, asked}
 use Rattle.protocol.specs.Rows.{lookup}
 use Rattle.line.specs.Calls.{Coding}
@@ -39,13 +39,12 @@ use Rattle.line.specs.World as line
 use Rattle.line.proofs.Codes.{coding, short}
 use Rattle.line.proofs.Runs.{starts}
 use Rattle.line.proofs.Whole.{law_of}
-use Rattle.law.specs.Cells.{is_mine, is_heir, sa_of, cell_by, cell_in, lines}
 use Rattle.law.specs.Ends.{End, Outstanding, made_end}
 use Rattle.law.specs.Runs.{World, at, Called, Run, Fit, Start, ever}
 use Rattle.law.specs.Laws as laws
-use Rattle.law.specs.Laws.{row_of, Quiet, Mirrored, MadeAt, InNeither, InBook, InBoth, Rekeys, loser_of, Loses, Accepted, Names, GaveUp, Succession, Tally, tally, rounds_since, NothingResent, HoldsTwo, Law, front, Lawful, GoesOn}
+use Rattle.law.specs.Laws.{row_of, Quiet, Mirrored, MadeAt, InNeither, InBook, InBoth, Replaces, loser_of, Loses, Accepted, Names, GivenUpBy, Succession, Tally, tally, rounds_since_ask, NothingResent, HoldsTwo, Law, front, Lawful, GoesOn}
 use Rattle.law.proofs.Calling.{call_of, answer_of, refusal_of, idle_of}
-use Rattle.law.proofs.Cells.{lines_lookup}
+use Rattle.law.proofs.Cells.{is_mine, is_heir, sa_of, cell_by, cell_in, lines, lines_lookup}
 use Rattle.law.proofs.Followed.{moves_of, answers_of, row_live, Ties, image, node_at, Followed, follow}
 use Rattle.law.proofs.Sending.{Named}
 use Rattle.law.proofs.Tied.{node, OutTied, Tied}
@@ -104,19 +103,19 @@ row_gone : (rs : List Row) (k : ℕ) → lookup (lines rs) k ≡ None → shelf.
 row_gone rs k h = row_none (shelf.lookup rs k) (sym (lines_lookup rs k) ∙ h)
 
 -- heirs
-heir_of : (r : Row) → Rekeys r → is_heir r ≡ true
+heir_of : (r : Row) → Replaces r → is_heir r ≡ true
 heir_of r h = not_from_false _ (ne_eqb r.parent.own 0 h)
 
-rekeys_of : (r : Row) → is_heir r ≡ true → Rekeys r
-rekeys_of r h e = true≢false (sym (eq-eqb r.parent.own 0 e) ∙ not-true _ h)
+replaces_of : (r : Row) → is_heir r ≡ true → Replaces r
+replaces_of r h e = true≢false (sym (eq-eqb r.parent.own 0 e) ∙ not-true _ h)
 
-side_is : (x s : Side) → model.is_side x s ≡ true → x ≡ s
+side_is : (x s : Side) → is_side x s ≡ true → x ≡ s
 side_is A A h = refl
 side_is A B h = let z : ◌≡◌ {A = ℕ} 0 1 = cc in absurd (omega arith)
 side_is B A h = let z : ◌≡◌ {A = ℕ} 0 1 = cc in absurd (omega arith)
 side_is B B h = refl
 
-is_same : (x s : Side) → x ≡ s → model.is_side x s ≡ true
+is_same : (x s : Side) → x ≡ s → is_side x s ≡ true
 is_same A A h = refl
 is_same A B h = let z : ◌≡◌ {A = ℕ} 0 1 = cc in absurd (omega arith)
 is_same B A h = let z : ◌≡◌ {A = ℕ} 0 1 = cc in absurd (omega arith)
@@ -141,40 +140,40 @@ loses_to : (s : Side) (r t : Row) → Loses s r t → invariant.Loses (first_acr
 loses_to s r t h = record { s_heir = heir_of r h.here; t_heir = heir_of t h.there; one = sym h.one; other = sym h.same; less = lose_to s r t h.loser }
 
 loses_back : (s : Side) (r t : Row) → invariant.Loses (first_across s) (sa_of r) (sa_of t) → Loses s r t
-loses_back s r t h = record { here = rekeys_of r h.s_heir; there = rekeys_of t h.t_heir; one = sym h.one; same = sym h.other; loser = lose_back s r t h.less }
+loses_back s r t h = record { here = replaces_of r h.s_heir; there = replaces_of t h.t_heir; one = sym h.one; same = sym h.other; loser = lose_back s r t h.less }
 
 module _ {C : Type 0} (behaviour : Behaviour C) where
   -- an ask that gives up an SA was accepted
-  gave_one :
+  gives_up :
       (e e' : End) (c c' : C) (x : Call (List ℕ)) (a : Answer) (k : ℕ) → Called behaviour e c x a e' c' → GivesUp (call_of x) (answer_of a) k →
       Names x k × Accepted a
-  gave_one e e' c c' (calls.Create n) (answer.Asked (Ok s)) k h g = absurd g
-  gave_one e e' c c' (calls.Create n) (answer.Asked (Err f)) k h g = absurd g
-  gave_one e e' c c' (calls.Create n) (answer.Resent r) k h g = absurd h
-  gave_one e e' c c' (calls.Create n) (answer.Heard r) k h g = absurd h
-  gave_one e e' c c' (calls.Rekey own n) (answer.Asked (Ok s)) k h g = (g, tt)
-  gave_one e e' c c' (calls.Rekey own n) (answer.Asked (Err f)) k h g = absurd g
-  gave_one e e' c c' (calls.Rekey own n) (answer.Resent r) k h g = absurd h
-  gave_one e e' c c' (calls.Rekey own n) (answer.Heard r) k h g = absurd h
-  gave_one e e' c c' (calls.Delete own) (answer.Asked (Ok s)) k h g = (g, tt)
-  gave_one e e' c c' (calls.Delete own) (answer.Asked (Err f)) k h g = absurd g
-  gave_one e e' c c' (calls.Delete own) (answer.Resent r) k h g = absurd h
-  gave_one e e' c c' (calls.Delete own) (answer.Heard r) k h g = absurd h
-  gave_one e e' c c' calls.Check (answer.Asked (Ok s)) k h g = absurd g
-  gave_one e e' c c' calls.Check (answer.Asked (Err f)) k h g = absurd g
-  gave_one e e' c c' calls.Check (answer.Resent r) k h g = absurd h
-  gave_one e e' c c' calls.Check (answer.Heard r) k h g = absurd h
-  gave_one e e' c c' calls.Resend a k h g = absurd g
-  gave_one e e' c c' (calls.Deliver n) a k h g = absurd g
+  gives_up e e' c c' (calls.Create n) (answer.Asked (Ok s)) k h g = absurd g
+  gives_up e e' c c' (calls.Create n) (answer.Asked (Err f)) k h g = absurd g
+  gives_up e e' c c' (calls.Create n) (answer.Resent r) k h g = absurd h
+  gives_up e e' c c' (calls.Create n) (answer.Heard r) k h g = absurd h
+  gives_up e e' c c' (calls.Rekey own n) (answer.Asked (Ok s)) k h g = (g, tt)
+  gives_up e e' c c' (calls.Rekey own n) (answer.Asked (Err f)) k h g = absurd g
+  gives_up e e' c c' (calls.Rekey own n) (answer.Resent r) k h g = absurd h
+  gives_up e e' c c' (calls.Rekey own n) (answer.Heard r) k h g = absurd h
+  gives_up e e' c c' (calls.Delete own) (answer.Asked (Ok s)) k h g = (g, tt)
+  gives_up e e' c c' (calls.Delete own) (answer.Asked (Err f)) k h g = absurd g
+  gives_up e e' c c' (calls.Delete own) (answer.Resent r) k h g = absurd h
+  gives_up e e' c c' (calls.Delete own) (answer.Heard r) k h g = absurd h
+  gives_up e e' c c' calls.Check (answer.Asked (Ok s)) k h g = absurd g
+  gives_up e e' c c' calls.Check (answer.Asked (Err f)) k h g = absurd g
+  gives_up e e' c c' calls.Check (answer.Resent r) k h g = absurd h
+  gives_up e e' c c' calls.Check (answer.Heard r) k h g = absurd h
+  gives_up e e' c c' calls.Resend a k h g = absurd g
+  gives_up e e' c c' (calls.Deliver n) a k h g = absurd g
 
-  gave_run :
+  given_up :
       (v : World C) (ms : List (Move (List ℕ))) (rs : List Answer) (w : World C) (s : Side) (k : ℕ) → Run behaviour v ms rs w →
-      line_history.GivenUpBy (moves_of ms) (answers_of rs) s k → GaveUp ms rs s k
-  gave_run v [] rs w s k h g = absurd g
-  gave_run v (m ∷ ms) [] w s k h g = absurd h
-  gave_run v (m ∷ ms) (a ∷ rs) w s k h g =
-      ⊎_elim (λ z. let p = gave_one _ _ _ _ m.call a k h.1.this z.1 in inl (z.0, p.0, p.1))
-      (λ z. inr (gave_run h.0 ms rs w s k h.2 z)) g
+      line_history.GivenUpBy (moves_of ms) (answers_of rs) s k → GivenUpBy ms rs s k
+  given_up v [] rs w s k h g = absurd g
+  given_up v (m ∷ ms) [] w s k h g = absurd h
+  given_up v (m ∷ ms) (a ∷ rs) w s k h g =
+      ⊎_elim (λ z. let p = gives_up _ _ _ _ m.call a k h.1.this z.1 in inl (z.0, p.0, p.1))
+      (λ z. inr (given_up h.0 ms rs w s k h.2 z)) g
 
   -- rounds are counted alike
   abbrev as_line : Tally → line_rest.Tally
@@ -287,7 +286,7 @@ module _ {C : Type 0} (behaviour : Behaviour C) (i r : ℕ) (fits_i : i < 2 ^ 64
       Succeeds (λ (u : line.World C). node_at s u) (λ (u : line.World C). node_at (other s) u) (first_across s) s (other s)
       (λ F. line_history.ever K behaviour.meaning F (image v x) (moves_of ms) (answers_of rs) (image w f.ties) f.run)
       (line_history.GivenUpBy (moves_of ms) (answers_of rs)) (image w f.ties) →
-      Succession s (λ F. ever behaviour F v ms rs w h) (GaveUp ms rs) w
+      Succession s (λ F. ever behaviour F v ms rs w h) (GivenUpBy ms rs) w
   succession s S =
       record {
         rekeyed = λ own y e k.
@@ -304,7 +303,7 @@ module _ {C : Type 0} (behaviour : Behaviour C) (i r : ℕ) (fits_i : i < 2 ^ 64
             (λ j z g l.
             let q = f.back (other s) j z g in
             beat j q.0 q.1 (loses_back s y q.0 (subst (invariant.Loses (first_across s) (sa_of y)) (sym q.2) l)))
-            (λ g. mine (gave_run behaviour v ms rs w s own h g)) (λ g. theirs (gave_run behaviour v ms rs w (other s) y.peer h g))
+            (λ g. mine (given_up behaviour v ms rs w s own h g)) (λ g. theirs (given_up behaviour v ms rs w (other s) y.peer h g))
             in
             record {
               here = present s own p.0.0 (sa_of y) p.0.1;
@@ -365,7 +364,7 @@ module _ {C : Type 0} (behaviour : Behaviour C) (sound : (c : C) → Sound (beha
         mirrors = λ q. both (λ t. Mirrored t w)
             (mirrored w.a.shelf.rows w.b.shelf.rows (l.mirrors.a_in_b (quiet q).a (quiet q).b))
             (mirrored w.b.shelf.rows w.a.shelf.rows (l.mirrors.b_in_a (quiet q).a (quiet q).b));
-        succession = λ q. both (λ t. Succession t (λ F. ever behaviour F v ms rs w h) (GaveUp ms rs) w)
+        succession = λ q. both (λ t. Succession t (λ F. ever behaviour F v ms rs w h) (GivenUpBy ms rs) w)
             (succession behaviour i r fits_i fits_r v ms rs w h x f A (l.made_by_a (quiet q)))
             (succession behaviour i r fits_i fits_r v ms rs w h x f B (l.made_by_b (quiet q)));
         rest = λ deep calm n.

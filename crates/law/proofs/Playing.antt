@@ -5,7 +5,8 @@ use Rattle.nonce.specs.Nonces.{nonce_long}
 use Rattle.nonce.specs.declared.side.Side.{Side}
 use Rattle.nonce.specs.declared.side.Side.TheVariants.{A, B}
 use Rattle.channel.specs.Behaviour.{Sends}
-use Rattle.channel.specs.Meaning.{In, Within, other}
+use Rattle.channel.specs.Meaning.{In, Within}
+use Rattle.nonce.specs.Sides.{other}
 use Rattle.channel.specs.declared.sent.Sent.{Sent}
 use Rattle.channel.specs.declared.sent.Sent.TheVariants.{Taken, NotTaken}
 use Rattle.calls.specs.declared.answers.Answer.{Answer}

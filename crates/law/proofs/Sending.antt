@@ -3,7 +3,6 @@ use Rattle.std.proofs.Common.{◌≡◌, ℕ, not, List, Some, None, Option, ref
 use Rattle.nonce.specs.declared.side.Side.{Side}
 use Rattle.nonce.specs.declared.side.Side.TheVariants.{A, B}
 use Rattle.channel.specs.Behaviour.{Behaviour, Sends}
-use Rattle.channel.specs.Meaning.{other}
 use Rattle.channel.specs.declared.sent.Sent.{Sent as Taking}
 use Rattle.wire.specs.declared.message.Message.{Message}
 use Rattle.wire.specs.declared.message.Request.{Request}
@@ -15,8 +14,7 @@ use Rattle.line.proofs.Effects.{sent_as, same_state}
 use Rattle.law.specs.Ends.{End, request_octets, response_octets}
 use Rattle.law.specs.Effects.{TakenOut, Comes}
 use Rattle.law.specs.Deliveries.{is_from_peer}
-use Rattle.law.specs.Responses.{is_side}
-use Rattle.protocol.specs.Model as model
+use Rattle.nonce.specs.Sides.{other, is_side}
 
 -- the end has this name, in an IKE SA with these SPIs
 pub record Named (i r : ℕ) (s : Side) (e : End) : Type 0 where
@@ -31,7 +29,7 @@ module _ (i r : ℕ) (s : Side) (e : End) (n : Named i r s e) where
   pub response_code : (id : ℕ) (q : Response (List ℕ)) → response_octets e id q ≡ code i r s (response id q)
   response_code id q = rw (n.side, n.initiator, n.responder)
 
-  from_other : (x t : Side) → not (is_side x t) ≡ model.is_side x (other t)
+  from_other : (x t : Side) → not (is_side x t) ≡ is_side x (other t)
   from_other A A = refl
   from_other A B = refl
   from_other B A = refl

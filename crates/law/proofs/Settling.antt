@@ -3,9 +3,10 @@ use Rattle.std.proofs.Common.{◌≡◌, ℕ, Bool, true, false, cond, ◌||◌,
 use Rattle.std.proofs.lemmas.Bool.{both_ways, cond_both, cond-true, cond-false, eq-eqb, ne_eqb}
 use Rattle.std.proofs.lemmas.Bool.Decides.{nat_tests}
 use Rattle.nonce.specs.Nonces.{nonce_long}
-use Rattle.nonce.specs.Order.{lowest_of, loser_by}
 use Rattle.nonce.specs.declared.side.Side.{Side}
 use Rattle.nonce.specs.declared.side.Side.TheVariants.{A, B}
+use Rattle.nonce.specs.Sides.{is_side}
+use Rattle.nonce.specs.Spis.{last_reserved, lowest_spi}
 use Rattle.book.specs.Rows.{is_opening, kept_octets}
 use Rattle.book.specs.Shelves as shelf
 use Rattle.book.specs.Shelves.{Shelf, Rising, has}
@@ -26,14 +27,13 @@ use Rattle.protocol.specs.Rows.{Line, lookup, insert, remove, find}
 use Rattle.line.specs.Calls.{Coding, quieted, wire, settle, settle_made, settle_won, unless_found, taken_as}
 use Rattle.line.specs.Tidy.{Tidy}
 use Rattle.law.specs.Asks.{closing as closing_of}
-use Rattle.law.specs.Cells.{seed_of, sa_of, cell_by, cell_in, lines}
 use Rattle.law.specs.Ends.{End, Outstanding, Collision, request_octets}
 use Rattle.law.specs.Requests.{row_at}
 use Rattle.law.specs.Responses as responses
 use Rattle.law.specs.Responses.{Settled, rests, goes_on, counted, dropped, new_settled, won, create_settled, rekey_settled, settled_by, settled}
 use Rattle.law.specs.Rows.{in_state, made_row, rewritten, without}
 use Rattle.law.proofs.Asking.{kept_back, write_new, lines_rewritten, rising_rewritten, below_rewritten, begun_rewritten}
-use Rattle.law.proofs.Cells.{lines_lookup, lines_find, found_by, found_as}
+use Rattle.law.proofs.Cells.{seed_of, sa_of, cell_by, cell_in, lines, lines_lookup, lines_find, found_by, found_as}
 use Rattle.law.proofs.Dropping.{lines_without, rising_without, below_without, begun_without}
 use Rattle.law.proofs.Tied.{is_a, node, CollTied, AskTied, OutTied, Tied, SameName, Below, Begun, BegunBy, RowBegun, all_lookup}
 
@@ -71,13 +71,13 @@ unless_live state.Standing x p n h = refl
 unless_live state.Superseded x p n h = refl
 unless_live state.Closing x p n h = refl
 
-module _ (rs : List Row) (rising : Rising 255 rs) (p : ℕ) (n : List ℕ) where
+module _ (rs : List Row) (rising : Rising last_reserved rs) (p : ℕ) (n : List ℕ) where
   counted_at :
       (q : Option ℕ) → shelf.find rs p ≡ q →
       sense (cond (is_some q) (response.Failed NoProposalChosen) (response.NewSa p n)) ≡ unless_found p n (found_as (row_at rs q))
   counted_at None e = refl
   counted_at (Some k) e =
-      let f = find_some 255 rs p k rising e in
+      let f = find_some last_reserved rs p k rising e in
       unless_live f.0.state f.0 p n f.3 ∙ sym (ap (λ y. unless_found p n (found_as y)) f.1)
 
   counted_by :
@@ -85,10 +85,10 @@ module _ (rs : List Row) (rising : Rising 255 rs) (p : ℕ) (n : List ℕ) where
       sense (cond (b || is_some (shelf.find rs p)) (response.Failed NoProposalChosen) (response.NewSa p n))
       ≡ cond b refused (unless_found p n (find p (lines rs)))
   counted_by true = refl
-  counted_by false = counted_at (shelf.find rs p) refl ∙ sym (ap (unless_found p n) (lines_find 255 rs p rising))
+  counted_by false = counted_at (shelf.find rs p) refl ∙ sym (ap (unless_found p n) (lines_find last_reserved rs p rising))
 
-counted_as : (rs : List Row) → Rising 255 rs → (r : Response (List ℕ)) → sense (counted rs r) ≡ taken_as (lines rs) (sense r)
-counted_as rs s (response.NewSa p n) = counted_by rs s p n (ltb p 256)
+counted_as : (rs : List Row) → Rising last_reserved rs → (r : Response (List ℕ)) → sense (counted rs r) ≡ taken_as (lines rs) (sense r)
+counted_as rs s (response.NewSa p n) = counted_by rs s p n (ltb p lowest_spi)
 counted_as rs s (response.Failed NoProposalChosen) = refl
 counted_as rs s (response.Failed NoAdditionalSas) = refl
 counted_as rs s (response.Failed TemporaryFailure) = refl
@@ -98,23 +98,17 @@ counted_as rs s response.Empty = refl
 
 counted_fine : (rs : List Row) (r : Response (List ℕ)) → ResponseFine r → ResponseFine (counted rs r)
 counted_fine rs (response.NewSa p n) h =
-    cond_both (ltb p 256 || is_some (shelf.find rs p)) (response.Failed NoProposalChosen) (response.NewSa p n) ResponseFine (λ t. tt) (λ f. h)
+    cond_both (ltb p lowest_spi || is_some (shelf.find rs p)) (response.Failed NoProposalChosen) (response.NewSa p n) ResponseFine (λ t. tt) (λ f. h)
 counted_fine rs (response.Failed f) h = tt
 counted_fine rs (response.Delete k) h = tt
 counted_fine rs response.Empty h = tt
 
 -- whose new SA loses
-same_side : (x s : Side) → responses.is_side x s ≡ model.is_side x s
-same_side A A = refl
-same_side A B = refl
-same_side B A = refl
-same_side B B = refl
-
 same_loser :
-    (s : Side) (oi or ti tr : List ℕ) → responses.is_side (responses.collision_loser s oi or ti tr) s ≡ lose (is_a s) oi or ti tr
+    (s : Side) (oi or ti tr : List ℕ) → is_side (responses.collision_loser s oi or ti tr) s ≡ lose (is_a s) oi or ti tr
 unfolding lose
-same_loser A oi or ti tr = same_side (loser_by (lowest_of oi or ti tr)) A
-same_loser B oi or ti tr = same_side (loser_by (lowest_of ti tr oi or)) B
+same_loser A oi or ti tr = refl
+same_loser B oi or ti tr = refl
 
 loses_as :
     (s : Side) (r : Row) (n : List ℕ) (o : Option Collision) (c : Coll) → CollTied o c →
@@ -135,7 +129,7 @@ insert_twice k c b (l ∷ ls) = let h = insert_twice k c b ls in grind (arith, n
 -- The two ways in which a response ends: the end is quiet, or it deletes a row.
 module _ (e : End) (said : Option (Response (List ℕ))) (i : ℕ) (a : Ask) (t : Tied e said (asked i a)) (q : Reply) where
   rests_settles :
-      (s : Shelf) (ls : List Line) → lines s.rows ≡ ls → Rising 255 s.rows → Below e.spi s.rows → Begun s.rows →
+      (s : Shelf) (ls : List Line) → lines s.rows ≡ ls → Rising last_reserved s.rows → Below e.spi s.rows → Begun s.rows →
       quieted (node e said (asked i a)) ls ≡ settle (node e said (asked i a)) a q → SettlesAs e said i a q (rests e s)
   rests_settles s ls l rising below begun h = record {
     after = idle;
@@ -147,7 +141,7 @@ module _ (e : End) (said : Option (Response (List ℕ))) (i : ℕ) (a : Ask) (t 
 
   closes_settles :
       (s : Shelf) (x : Row) (k : ℕ) (ls : List Line) → x.own ≡ k → has s.rows k ≡ true →
-      insert k (live closing (sa_of x)) (lines s.rows) ≡ ls → Rising 255 s.rows → Below e.spi s.rows → Begun s.rows →
+      insert k (live closing (sa_of x)) (lines s.rows) ≡ ls → Rising last_reserved s.rows → Below e.spi s.rows → Begun s.rows →
       sending (node e said (asked i a)) (delete k) ls e.spi ≡ settle (node e said (asked i a)) a q →
       SettlesAs e said i a q (goes_on (closing_of e x s))
   closes_settles s x k ls own here l rising below begun h =
@@ -211,9 +205,9 @@ opened : (e : End) (k : ℕ) (d : Seed) → Begun e.shelf.rows → lookup (lines
 opened e k d b h = opened_at e k d (shelf.lookup e.shelf.rows k) b refl (sym (lines_lookup e.shelf.rows k) ∙ h)
 
 -- The peer has made the SA, under its SPI p and with its nonce n: the row stands.
-module _ (e : End) (k : ℕ) (d : Seed) (w : Opened e k d) (rising : Rising 255 e.shelf.rows) (p : ℕ) (n : List ℕ) (fine : nonce_long n ≡ true) where
+module _ (e : End) (k : ℕ) (d : Seed) (w : Opened e k d) (rising : Rising last_reserved e.shelf.rows) (p : ℕ) (n : List ℕ) (fine : nonce_long n ≡ true) where
   abbrev new : Row
-  new = made_row state.Standing p n w.row
+  new = made_row p n w.row
 
   new_sa : sa_of new ≡ grown p d n
   new_sa = rw (w.began, kept_back n fine) (ap (λ y. grown p y n) w.seed)
@@ -229,7 +223,7 @@ module _ (e : End) (k : ℕ) (d : Seed) (w : Opened e k d) (rising : Rising 255 
       lines_rewritten e.shelf new rising there ∙ ap (λ j. insert j (live standing (sa_of new)) (lines e.shelf.rows)) w.own
       ∙ ap (λ y. insert k (live standing y) (lines e.shelf.rows)) new_sa
 
-  filed_rising : Rising 255 filed.rows
+  filed_rising : Rising last_reserved filed.rows
   filed_rising = rising_rewritten e.shelf new rising there
 
   filed_below : Below e.spi e.shelf.rows → Below e.spi filed.rows

@@ -2,12 +2,12 @@
 use Rattle.std.proofs.Common.{◌≡◌, ℕ, ◌^◌, ◌<◌, Bool, true, false, List, Some, None, Ok, Err, MatchBool, Option, Result, sym, refl, ap, ◌∙◌, subst}
 use Rattle.nonce.specs.Nonces.{nonce_long}
 use Rattle.nonce.specs.declared.side.Side.{Side}
+use Rattle.nonce.specs.Sides.{other}
 use Rattle.book.specs.Shelves as shelf
 use Rattle.book.specs.declared.row.Row.{Row}
 use Rattle.book.specs.declared.row.RowState.{RowState}
 use Rattle.book.specs.declared.row.RowState.TheVariants as state
 use Rattle.channel.specs.Behaviour.{Behaviour}
-use Rattle.channel.specs.Meaning.{other}
 use Rattle.calls.specs.declared.answers.Answer.{Answer}
 use Rattle.calls.specs.declared.answers.Answer.TheVariants as answer
 use Rattle.calls.specs.declared.answers.Delivered.{Delivered}
@@ -24,7 +24,6 @@ use Rattle.line.specs.Tidy.{Tidy, RowHeld}
 use Rattle.line.specs.World.{gets_none, deliver, nothing}
 use Rattle.line.proofs.Codes.{coding}
 use Rattle.line.proofs.Codes as codes
-use Rattle.law.specs.Cells.{cell_by, cell_in}
 use Rattle.law.specs.Ends.{End, is_quiet}
 use Rattle.law.specs.Asks.{Doing, create_asked, rekey_asked, delete_asked, check_asked}
 use Rattle.law.specs.Effects as effects
@@ -32,7 +31,7 @@ use Rattle.law.specs.Deliveries.{heard}
 use Rattle.law.specs.Runs.{Called}
 use Rattle.law.proofs.Asking.{NotOwn, holds, quiet_none, create_asks, rekey_asks, delete_asks, check_asks}
 use Rattle.law.proofs.Calling.{call_of, answer_of, idle_of, Does, stays, ask_does, resend_does}
-use Rattle.law.proofs.Cells.{lines_lookup}
+use Rattle.law.proofs.Cells.{cell_by, cell_in, lines_lookup}
 use Rattle.law.proofs.Hearing.{datagram_does}
 use Rattle.law.proofs.Sending.{Named, got}
 use Rattle.law.proofs.Tied.{node, Tied}

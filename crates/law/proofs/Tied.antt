@@ -2,6 +2,7 @@
 use Rattle.std.proofs.Common.{◌≡◌, ℕ, suc, ◌<◌, ◌≤◌, Bool, true, false, eqb, ltb, List, [], ◌∷◌, Some, None, Option, refl, subst, inl, inr, arith}
 use Rattle.nonce.specs.declared.side.Side.{Side}
 use Rattle.nonce.specs.declared.side.Side.TheVariants.{A, B}
+use Rattle.nonce.specs.Spis.{last_reserved, lowest_spi}
 use Rattle.book.specs.Shelves.{Rising, has, lookup, insert, replace, remove}
 use Rattle.std.proofs.lemmas.Bool.Decides.{nat_tests}
 use Rattle.std.proofs.ByRecursion.{All-weaker}
@@ -18,9 +19,9 @@ use Rattle.wire.specs.declared.message.Response.{Response}
 use Rattle.protocol.specs.Model.{Coll, alone, met, Ask, create, rekey, delete, check}
 use Rattle.protocol.specs.Node.{Out, idle, asked, Node}
 use Rattle.line.specs.Calls.{wire}
-use Rattle.law.specs.Cells.{lines}
 use Rattle.law.specs.Ends.{End, Outstanding, Collision, request_octets, response_octets}
 use Rattle.law.specs.declared.kinds.Kind.TheVariants as kind
+use Rattle.law.proofs.Cells.{lines}
 
 abbrev pub is_a : Side → Bool
 is_a A = true
@@ -84,10 +85,10 @@ Begun rs = All RowBegun rs
 pub record Tied (e : End) (said : Option (Response (List ℕ))) (busy : Out) : Type 0 where
   pub reply : ReplyTied e e.reply said
   pub out : OutTied e e.outstanding busy
-  pub rising : Rising 255 e.shelf.rows
+  pub rising : Rising last_reserved e.shelf.rows
   pub below : Below e.spi e.shelf.rows
   pub begun : Begun e.shelf.rows
-  pub least : 256 ≤ e.spi
+  pub least : lowest_spi ≤ e.spi
 
 -- the ends have the same name in the same IKE SA
 pub record SameName (e e' : End) : Type 0 where

@@ -1,7 +1,7 @@
 -- What an ask does: the first refusal that applies, or the end after it and the octets that are sent.
-use Rattle.std.specs.Prelude.{ℕ, suc, Bool, true, false, not, List, length, Some, None, Ok, Err, Option, Result, nat_le}
+use Rattle.std.specs.Prelude.{ℕ, suc, Bool, true, false, not, List, Some, None, Ok, Err, Option, Result}
 use Rattle.nonce.specs.Nonces.{nonce_long}
-use Rattle.book.specs.Shelves.{Shelf, lookup}
+use Rattle.book.specs.Shelves.{Shelf, is_full, lookup}
 use Rattle.book.specs.declared.row.Row.{Row}
 use Rattle.book.specs.declared.row.RowState.{RowState}
 use Rattle.book.specs.declared.row.RowState.TheVariants.{Opening, Fresh, Standing, Superseded, Closing}
@@ -29,7 +29,7 @@ where_holds true e r = r
 where_holds false e r = Err e
 
 abbrev pub has_room : Shelf → Bool
-has_room s = not (nat_le s.most (length s.rows))
+has_room s = not (is_full s)
 
 -- a request of this end goes out under its next ID
 abbrev pub doing : End → Request (List ℕ) → End → Asked
@@ -86,18 +86,23 @@ closing e r shelf = record {
   says = request_octets e e.next (request.Delete r.own);
 }
 
+abbrev pub deleting : End → Row → Asked
+deleting e r = Ok (closing e r e.shelf)
+
 unfoldable pub delete_asked : End → ℕ → Asked
 delete_asked e own =
     where_holds (is_quiet e.outstanding) refusal.Busy
     (where_holds (not (is_spent e.next)) refusal.IdsSpent
-    (of_row (lookup e.shelf.rows own) (λ r. Ok (closing e r e.shelf))))
+    (of_row (lookup e.shelf.rows own) (deleting e)))
 
 -- check: an empty request
+abbrev pub checking : End → Asked
+checking e = doing e request.Empty (sending e e.shelf e.spi kind.Check 0 0 request.Empty)
+
 unfoldable pub check_asked : End → Asked
 check_asked e =
     where_holds (is_quiet e.outstanding) refusal.Busy
-    (where_holds (not (is_spent e.next)) refusal.IdsSpent
-    (doing e request.Empty (sending e e.shelf e.spi kind.Check 0 0 request.Empty)))
+    (where_holds (not (is_spent e.next)) refusal.IdsSpent (checking e))
 
 -- resend: the outstanding octets once more
 abbrev pub resend_asked : Option Outstanding → Result (List ℕ) ResendRefusal

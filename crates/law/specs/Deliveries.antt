@@ -1,5 +1,6 @@
 -- What a delivery does to an end, by what came.
 use Rattle.std.specs.Prelude.{ℕ, suc, Bool, true, false, cond, not, ◌&&◌, List, Some, None, Ok, Err, Option, Result, ◌==◌}
+use Rattle.nonce.specs.Sides.{is_side}
 use Rattle.wire.specs.Decoding.{decoded}
 use Rattle.wire.specs.declared.message.DecodeRefusal.{DecodeRefusal}
 use Rattle.wire.specs.declared.message.Message.{Message}
@@ -10,7 +11,7 @@ use Rattle.wire.specs.declared.message.Response.{Response}
 use Rattle.law.specs.Ends.{End, Outstanding}
 use Rattle.law.specs.Asks.{Doing}
 use Rattle.law.specs.Requests.{answered}
-use Rattle.law.specs.Responses.{Settled, is_side, settled}
+use Rattle.law.specs.Responses.{Settled, settled}
 use Rattle.calls.specs.declared.refusals.DeliverRefusal.{DeliverRefusal}
 use Rattle.calls.specs.declared.refusals.DeliverRefusal.TheVariants as refusal
 

@@ -2,8 +2,9 @@
 use Rattle.std.specs.Prelude.{◌≡◌, ℕ, ◌<◌, ◌≤◌, List, [], length, IfSome, Some, None, Ok, Err, MatchBool, Option, Result, MatchOption}
 use Rattle.nonce.specs.Nonces.{nonce_long}
 use Rattle.nonce.specs.declared.side.Side.{Side}
+use Rattle.nonce.specs.Sides.{other}
 use Rattle.channel.specs.Behaviour.{Behaviour, Sends}
-use Rattle.channel.specs.Meaning.{Meaning, Without, other}
+use Rattle.channel.specs.Meaning.{Meaning, Without}
 use Rattle.channel.specs.declared.sent.Sent.{Sent}
 use Rattle.channel.specs.declared.sent.Sent.TheVariants.{Taken}
 use Rattle.calls.specs.declared.answers.Delivered.{Delivered}

@@ -2,6 +2,7 @@
 use Rattle.std.specs.Prelude.{ℕ, suc, ◌^◌, Bool, true, false, cond, ◌||◌, List, length, Some, None, Ok, Err, Option, Result, ◌==◌, nat_lt}
 use Rattle.nonce.specs.declared.side.Side.{Side}
 use Rattle.nonce.specs.declared.side.Side.TheVariants.{A, B}
+use Rattle.nonce.specs.Spis.{is_reserved}
 use Rattle.book.specs.Shelves.{Shelf, empty_shelf}
 use Rattle.wire.specs.Messages.{octets_of}
 use Rattle.wire.specs.declared.message.Body.TheVariants as body
@@ -78,10 +79,7 @@ made_end m B most = record {
   outstanding = None;
 }
 
--- a reserved first SPI
-abbrev pub is_reserved : ℕ → Bool
-is_reserved spi = nat_lt spi 256
-
+-- a first SPI is reserved
 abbrev pub making_reserved : Making → Bool
 making_reserved m = is_reserved m.a.spi || is_reserved m.b.spi
 

@@ -3,12 +3,13 @@ use Rattle.std.specs.Prelude.{◌≡◌, ℕ, zero, suc, ◌≤◌, Bool, true, 
 use Rattle.nonce.specs.Order.{lowest_of, loser_by}
 use Rattle.nonce.specs.declared.side.Side.{Side}
 use Rattle.nonce.specs.declared.side.Side.TheVariants.{A, B}
+use Rattle.nonce.specs.Sides.{other}
 use Rattle.book.specs.Rows.{kept_octets, mirrors}
 use Rattle.book.specs.Shelves.{lookup}
 use Rattle.book.specs.declared.row.Beginner.TheVariants.{Peer}
 use Rattle.book.specs.declared.row.Row.{Row}
 use Rattle.channel.specs.Behaviour.{Behaviour}
-use Rattle.channel.specs.Meaning.{Meaning, other}
+use Rattle.channel.specs.Meaning.{Meaning}
 use Rattle.calls.specs.declared.moves.Call.{Call}
 use Rattle.calls.specs.declared.moves.Call.TheVariants.{Create, Rekey, Delete, Check, Resend, Deliver}
 use Rattle.calls.specs.declared.moves.Move.{Move}
@@ -51,8 +52,8 @@ pub record InBoth {C : Type 0} (s : Side) (own peer : ℕ) (w : World C) : Type 
   pub there : InBook (other s) peer own w
 
 -- the row is of an SA that was made to replace another
-abbrev pub Rekeys : Row → Type 0
-Rekeys r = r.parent.own ≡ 0 → ⊥
+abbrev pub Replaces : Row → Type 0
+Replaces r = r.parent.own ≡ 0 → ⊥
 
 -- Whose new SA loses, where s answered the peer's rekey with r and the peer that of s with t.
 abbrev pub loser_of : Side → Row → Row → Side
@@ -61,8 +62,8 @@ loser_of B r t = loser_by (lowest_of (kept_octets r.ni) (kept_octets r.nr) (kept
 
 -- r, which s made for its peer, and t, which the peer made for s, replace one SA, and r loses
 pub record Loses (s : Side) (r t : Row) : Type 0 where
-  pub here : Rekeys r
-  pub there : Rekeys t
+  pub here : Replaces r
+  pub there : Replaces t
   pub one : r.parent.own ≡ t.parent.peer
   pub same : r.parent.peer ≡ t.parent.own
   pub loser : loser_of s r t ≡ other s
@@ -84,19 +85,19 @@ Names Resend own = ⊥
 Names (Deliver n) own = ⊥
 
 -- in the run, the end of a side accepted a rekey or a delete of the SA of its own SPI
-abbrev pub GaveUp : List (Move (List ℕ)) → List Answer → Side → ℕ → Type 0
-GaveUp [] rs s own = ⊥
-GaveUp (m ∷ ms) [] s own = ⊥
-GaveUp (m ∷ ms) (r ∷ rs) s own = ((m.side ≡ s) × Names m.call own × Accepted r) ⊎ GaveUp ms rs s own
+abbrev pub GivenUpBy : List (Move (List ℕ)) → List Answer → Side → ℕ → Type 0
+GivenUpBy [] rs s own = ⊥
+GivenUpBy (m ∷ ms) [] s own = ⊥
+GivenUpBy (m ∷ ms) (r ∷ rs) s own = ((m.side ≡ s) × Names m.call own × Accepted r) ⊎ GivenUpBy ms rs s own
 
--- What has become, once both ends are quiet, of the SAs that the end of the side s made for its peer. Ever is of the moments of the run, gave of its accepted asks.
-pub record Succession {C : Type 0} (s : Side) (ever_in : (World C → Type 0) → Type 0) (gave : Side → ℕ → Type 0) (w : World C) : Type 0 where
+-- What has become, once both ends are quiet, of the SAs that the end of the side s made for its peer. Ever is of the moments of the run, given_up of its accepted asks.
+pub record Succession {C : Type 0} (s : Side) (ever_in : (World C → Type 0) → Type 0) (given_up : Side → ℕ → Type 0) (w : World C) : Type 0 where
   -- an SA that was rekeyed is in neither book
   pub rekeyed :
-      (own : ℕ) (r : Row) → ever_in (MadeAt s own r) → Rekeys r → InNeither s r.parent.own r.parent.peer w
+      (own : ℕ) (r : Row) → ever_in (MadeAt s own r) → Replaces r → InNeither s r.parent.own r.parent.peer w
   -- an end answers at most one rekey of an SA with a new one
   pub once :
-      (own other_own : ℕ) (r t : Row) → ever_in (MadeAt s own r) → ever_in (MadeAt s other_own t) → Rekeys r →
+      (own other_own : ℕ) (r t : Row) → ever_in (MadeAt s own r) → ever_in (MadeAt s other_own t) → Replaces r →
       r.parent.own ≡ t.parent.own → own ≡ other_own
   -- of two new SAs for one the loser is in neither book
   pub loser :
@@ -105,8 +106,8 @@ pub record Succession {C : Type 0} (s : Side) (ever_in : (World C → Type 0) �
   -- the other, or the only one, is in both, unless an end accepted a rekey or a delete of it
   pub successor :
       (own : ℕ) (r : Row) → ever_in (MadeAt s own r) →
-      ((their_own : ℕ) (t : Row) → ever_in (MadeAt (other s) their_own t) → Loses s r t → ⊥) → (gave s own → ⊥) →
-      (gave (other s) r.peer → ⊥) → InBoth s own r.peer w
+      ((their_own : ℕ) (t : Row) → ever_in (MadeAt (other s) their_own t) → Loses s r t → ⊥) → (given_up s own → ⊥) →
+      (given_up (other s) r.peer → ⊥) → InBoth s own r.peer w
 
 -- Rounds since the last accepted ask, and whether a delivery to A has begun the next one. A round is a delivery to A and then one
 -- to B, neither refused for its nonce; other calls may lie between.
@@ -137,8 +138,8 @@ tally t [] rs = t
 tally t (m ∷ ms) [] = t
 tally t (m ∷ ms) (r ∷ rs) = tally (tallied t m.side r) ms rs
 
-abbrev pub rounds_since : List (Move (List ℕ)) → List Answer → ℕ
-rounds_since ms rs = (tally (record { rounds = 0; half = false }) ms rs).rounds
+abbrev pub rounds_since_ask : List (Move (List ℕ)) → List Answer → ℕ
+rounds_since_ask ms rs = (tally (record { rounds = 0; half = false }) ms rs).rounds
 
 -- whether a request was sent again at this call: a resend that was not refused
 abbrev pub is_resent : Answer → Bool
@@ -161,9 +162,9 @@ pub record Law {C : Type 0} (behaviour : Behaviour C) (v : World C) (ms : List (
   -- whenever both ends are quiet, every row of either book has its mirror in the other
   pub mirrors : Quiet w → (s : Side) → Mirrored s w
   -- and what was rekeyed, and the loser of a collision, is in neither book; every successor is in both, unless it was given up
-  pub succession : Quiet w → (s : Side) → Succession s (λ F. ever behaviour F v ms rs w h) (GaveUp ms rs) w
+  pub succession : Quiet w → (s : Side) → Succession s (λ F. ever behaviour F v ms rs w h) (GivenUpBy ms rs) w
   -- where nothing was sent again, over a channel that holds two messages for each end, both are quiet eight rounds after the last accepted ask
-  pub rest : HoldsTwo (behaviour.meaning v.channel) → NothingResent rs → 8 ≤ rounds_since ms rs → Quiet w
+  pub rest : HoldsTwo (behaviour.meaning v.channel) → NothingResent rs → 8 ≤ rounds_since_ask ms rs → Quiet w
 
 -- the first calls of a run
 pub record Front {C : Type 0} (behaviour : Behaviour C) (v : World C) (ms : List (Move (List ℕ))) (rs : List Answer) : Type 0 where

@@ -1,6 +1,5 @@
 pub mod Ends
 pub mod Rows
-pub mod Cells
 pub mod Asks
 pub mod Requests
 pub mod Responses

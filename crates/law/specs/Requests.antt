@@ -1,6 +1,7 @@
 -- What a request with the expected ID does to an end, and what is answered: the first line that applies decides.
-use Rattle.std.specs.Prelude.{ℕ, suc, Bool, false, cond, ◌||◌, List, length, is_some, Some, None, Option, ◌==◌, nat_le}
-use Rattle.book.specs.Shelves.{Shelf, lookup, find}
+use Rattle.std.specs.Prelude.{ℕ, suc, Bool, false, cond, ◌||◌, List, is_some, Some, None, Option, ◌==◌}
+use Rattle.nonce.specs.Spis.{is_reserved}
+use Rattle.book.specs.Shelves.{Shelf, is_full, lookup, find}
 use Rattle.book.specs.declared.row.Row.{Row}
 use Rattle.book.specs.declared.row.RowState.{RowState}
 use Rattle.book.specs.declared.row.RowState.TheVariants.{Opening, Fresh, Standing, Superseded, Closing}
@@ -10,7 +11,7 @@ use Rattle.wire.specs.declared.message.Request.{Request}
 use Rattle.wire.specs.declared.message.Request.TheVariants as request
 use Rattle.wire.specs.declared.message.Response.{Response}
 use Rattle.wire.specs.declared.message.Response.TheVariants as response
-use Rattle.law.specs.Ends.{End, Outstanding, Collision, is_spent, is_reserved, response_octets, replying}
+use Rattle.law.specs.Ends.{End, Outstanding, Collision, is_spent, response_octets, replying}
 use Rattle.law.specs.Asks.{Doing}
 use Rattle.law.specs.Rows.{none, fresh_row, in_state, calm_shelf, with_row, rewritten, without}
 use Rattle.law.specs.declared.kinds.Kind.{Kind}
@@ -40,7 +41,7 @@ unusable rs peer = is_reserved peer || is_some (find rs peer)
 
 -- the book is full, or the own SPIs are spent
 abbrev pub no_more : End → Shelf → Bool
-no_more e s = nat_le s.most (length s.rows) || is_spent e.spi
+no_more e s = is_full s || is_spent e.spi
 
 -- this end's own rekey of a row records the collision with the peer's
 abbrev pub recorded_in : Outstanding → Collision → Outstanding

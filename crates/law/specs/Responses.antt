@@ -3,10 +3,10 @@ use Rattle.std.specs.Prelude.{ℕ, Bool, true, false, cond, List, Some, None, Op
 use Rattle.nonce.specs.Order.{lowest_of, loser_by}
 use Rattle.nonce.specs.declared.side.Side.{Side}
 use Rattle.nonce.specs.declared.side.Side.TheVariants.{A, B}
+use Rattle.nonce.specs.Sides.{is_side}
 use Rattle.book.specs.Rows.{kept_octets}
 use Rattle.book.specs.Shelves.{Shelf, lookup}
 use Rattle.book.specs.declared.row.Row.{Row}
-use Rattle.book.specs.declared.row.RowState.TheVariants.{Standing}
 use Rattle.wire.specs.declared.message.Failure.{Failure}
 use Rattle.wire.specs.declared.message.Failure.TheVariants.{NoProposalChosen, NoAdditionalSas, TemporaryFailure, ChildSaNotFound}
 use Rattle.wire.specs.declared.message.Response.{Response}
@@ -36,12 +36,6 @@ counted rs (response.Failed e) = response.Failed e
 counted rs (response.Delete spi) = response.Delete spi
 counted rs response.Empty = response.Empty
 
-abbrev pub is_side : Side → Side → Bool
-is_side A A = true
-is_side A B = false
-is_side B A = false
-is_side B B = true
-
 -- whose new SA loses: own is the exchange that this side began, theirs the peer's
 abbrev pub collision_loser : Side → (own_i own_r their_i their_r : List ℕ) → Side
 collision_loser A oi or ti tr = loser_by (lowest_of oi or ti tr)
@@ -64,12 +58,12 @@ new_settled e o false r s = won e s (lookup s.rows o.old)
 abbrev pub rekey_made : End → Outstanding → ℕ → List ℕ → Option Row → Settled
 rekey_made e o peer nr None = rests e e.shelf
 rekey_made e o peer nr (Some r) =
-    new_settled e o (loses e.side r nr o.collision) (made_row Standing peer nr r)
-    (rewritten e.shelf (made_row Standing peer nr r))
+    new_settled e o (loses e.side r nr o.collision) (made_row peer nr r)
+    (rewritten e.shelf (made_row peer nr r))
 
 abbrev pub create_made : End → ℕ → List ℕ → Option Row → Settled
 create_made e peer nr None = rests e e.shelf
-create_made e peer nr (Some r) = rests e (rewritten e.shelf (made_row Standing peer nr r))
+create_made e peer nr (Some r) = rests e (rewritten e.shelf (made_row peer nr r))
 
 -- the row of the request is dropped
 abbrev pub dropped : End → Outstanding → Settled

@@ -47,12 +47,12 @@ in_state s r = record {
   nr = r.nr;
 }
 
--- the Opening row once the peer has made the SA, under its SPI and with its nonce
-abbrev pub made_row : RowState → ℕ → List ℕ → Row → Row
-made_row s peer nr r = record {
+-- the Opening row once the peer has made the SA, under its SPI and with its nonce: it stands
+abbrev pub made_row : ℕ → List ℕ → Row → Row
+made_row peer nr r = record {
   own = r.own;
   peer = peer;
-  state = s;
+  state = Standing;
   began = r.began;
   parent = r.parent;
   ni = r.ni;

@@ -2,8 +2,9 @@
 use Rattle.std.specs.Prelude.{◌≡◌, ℕ, ◌^◌, ◌<◌, ◌≤◌, ◌⊎◌, List, [], ◌∷◌}
 use Rattle.nonce.specs.declared.side.Side.{Side}
 use Rattle.nonce.specs.declared.side.Side.TheVariants.{A, B}
+use Rattle.nonce.specs.Sides.{other}
+use Rattle.nonce.specs.Spis.{lowest_spi}
 use Rattle.channel.specs.Behaviour.{Behaviour}
-use Rattle.channel.specs.Meaning.{other}
 use Rattle.calls.specs.declared.moves.Call.{Call}
 use Rattle.calls.specs.declared.moves.Call.TheVariants.{Create, Rekey, Delete, Check, Resend, Deliver}
 use Rattle.calls.specs.declared.moves.Move.{Move}
@@ -68,8 +69,8 @@ pub record Fit (m : Making) : Type 0 where
   pub id_b : m.b.id < 2 ^ 32
   pub spi_a : m.a.spi < 2 ^ 32
   pub spi_b : m.b.spi < 2 ^ 32
-  pub least_a : 256 ≤ m.a.spi
-  pub least_b : 256 ≤ m.b.spi
+  pub least_a : lowest_spi ≤ m.a.spi
+  pub least_b : lowest_spi ≤ m.b.spi
 
 -- nothing may come from a channel
 abbrev pub Clean : {C : Type 0} → Behaviour C → C → Type 0

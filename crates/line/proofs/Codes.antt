@@ -4,6 +4,7 @@ use Rattle.std.proofs.lemmas.Bool.{leb-true, eq-eqb, and_parts, and_from}
 use Rattle.nonce.specs.Nonces.{nonce_long}
 use Rattle.nonce.specs.declared.side.Side.{Side}
 use Rattle.nonce.specs.declared.side.Side.TheVariants.{A, B}
+use Rattle.nonce.specs.Sides.{is_side}
 use Rattle.wire.specs.Exact.{Valid, ValidOffer, ValidRequest, ValidResponse}
 use Rattle.wire.proofs.Back.{message_back, message_size}
 use Rattle.wire.specs.declared.message.Failure.TheVariants.{NoProposalChosen, NoAdditionalSas, TemporaryFailure, ChildSaNotFound}
@@ -11,7 +12,7 @@ use Rattle.wire.specs.declared.message.Request.{Request}
 use Rattle.wire.specs.declared.message.Request.TheVariants as requests
 use Rattle.wire.specs.declared.message.Response.{Response}
 use Rattle.wire.specs.declared.message.Response.TheVariants as responses
-use Rattle.protocol.specs.Model.{Nonce, is_side}
+use Rattle.protocol.specs.Model.{Nonce}
 use Rattle.line.specs.Calls.{Msg, request, response, GoodWire, GoodReply, Coding}
 use Rattle.line.specs.Codes.{body_of, id_of, message, msg_of, is_from, said_by, code, decode, Sendable, Coded}
 use Rattle.line.specs.Rest.{Short}

@@ -11,7 +11,8 @@ use Rattle.protocol.specs.Node.{Bar, sense, stored, Out, idle, asked, Node, link
 use Rattle.protocol.proofs.Nodes.{answers_as, bearing}
 use Rattle.nonce.specs.declared.side.Side.{Side}
 use Rattle.nonce.specs.declared.side.Side.TheVariants.{A, B}
-use Rattle.channel.specs.Meaning.{other, Meaning}
+use Rattle.nonce.specs.Sides.{other}
+use Rattle.channel.specs.Meaning.{Meaning}
 use Rattle.line.specs.Meaning.{Sent, Got}
 use Rattle.line.specs.Calls.{Want, names, ask, settle, taken_as, wire, answer_wire, Msg, request, response, GoodReply, Coding, Good, Allowed}
 use Rattle.line.specs.World.{Call, Answer, Did, refuses, asks, resends, gets_none, ignores, repeats, answers, settles, follows}

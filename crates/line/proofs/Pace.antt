@@ -7,7 +7,7 @@ use Rattle.channel.specs.Meaning.{Meaning, Sound}
 use Rattle.line.specs.Calls.{Coding}
 use Rattle.line.specs.World as world
 use Rattle.line.specs.World.{Call, asking, resend, deliver, Answer, did, again, stopped, nothing, unused, World, Move, StepOn, Start}
-use Rattle.line.specs.Rest.{Holding, Short, total, Tally, delivered, tallied, tally, rounds_since, not_resent, none_resent, Deep, Still, Fell, effect, pace}
+use Rattle.line.specs.Rest.{Holding, Short, total, Tally, delivered, tallied, tally, rounds_since_ask, not_resent, none_resent, Deep, Still, Fell, effect, pace}
 use Rattle.line.proofs.Dues.{no_weight, weight_most}
 use Rattle.line.proofs.Dues as D
 use Rattle.line.proofs.Waiting.{nothing_due}
@@ -174,7 +174,7 @@ module _ {C : Type 0} (K : Coding) (wide : ℕ) (short : Short K wide) (meaning 
       → Sound (meaning v.ch)
       → Deep wide (meaning v.ch)
       → none_resent xs rs
-      → 8 ≤ rounds_since xs rs
+      → 8 ≤ rounds_since_ask xs rs
       → (w.a.out ≡ idle) × (w.b.out ≡ idle)
   comes_to_rest v xs rs w h s sound deep n l =
       let m = meaning v.ch in

@@ -6,7 +6,8 @@ use Rattle.protocol.specs.Model.{Nonce, Ask}
 use Rattle.protocol.specs.Rows.{calm_lines}
 use Rattle.protocol.specs.Node.{Bar, sense, idle, asked, Node, InStep}
 use Rattle.nonce.specs.declared.side.Side.{Side}
-use Rattle.channel.specs.Meaning.{other, Meaning}
+use Rattle.nonce.specs.Sides.{other}
+use Rattle.channel.specs.Meaning.{Meaning}
 use Rattle.line.specs.Meaning.{Same, Sent, Got}
 use Rattle.line.specs.Calls.{Want, ask, settle, taken_as, wire, heard, answer_wire, Msg, request, response, Coding}
 use Rattle.line.specs.World.{Call, asking, resend, deliver, Answer, stopped, Uncounted, Did, refuses, asks, resends, gets_none, ignores, repeats, answers, settles, follows}

@@ -11,11 +11,12 @@ use Rattle.protocol.specs.Model.{Nonce, Sa, mirror, lose, Ask, live, standing}
 use Rattle.protocol.specs.Node.{Bar, no_more, sense, Out, idle, asked, Node}
 use Rattle.nonce.specs.declared.side.Side.{Side}
 use Rattle.nonce.specs.declared.side.Side.TheVariants.{A, B}
-use Rattle.channel.specs.Meaning.{other, Meaning, In, Sound, Without}
+use Rattle.nonce.specs.Sides.{other}
+use Rattle.channel.specs.Meaning.{Meaning, In, Sound, Without}
 use Rattle.line.specs.Meaning.{Same, Sent, Got}
 use Rattle.line.specs.Calls.{Want, to_create, to_rekey, to_delete, to_check, ask, settle, taken_as, wire, answer_wire, Msg, request, response, Coding, Allowed}
 use Rattle.line.specs.World.{Call, asking, resend, deliver, Answer, did, again, stopped, nothing, unused, Did, refuses, asks, resends, gets_none, ignores, repeats, answers, settles, follows, World, Move, Run, made_end, Start}
-use Rattle.line.specs.Rest.{not_resent, none_resent, rounds_since}
+use Rattle.line.specs.Rest.{not_resent, none_resent, rounds_since_ask}
 use Rattle.line.specs.Whole.{Quiet, Law}
 use Rattle.line.proofs.Codes.{coding, short}
 use Rattle.line.proofs.Whole.{law_of}
@@ -297,7 +298,7 @@ sound : Sound (meaning start.ch)
 sound =
     record { most = lit≤ tt; sized = λ e d h. absurd (clean e d h); listed = λ e d l h. h; comes = λ e d l h. h }
 
-eight : 8 ≤ rounds_since both_rekey (runs start both_rekey).answers
+eight : 8 ≤ rounds_since_ask both_rekey (runs start both_rekey).answers
 unfolding dec_lt ℕ_discrete lose sa_body ts_body rekey_body failure_body delete_body carried sa_in rekeyed_in deleted_in not_found_in failure_in header_in opened offer_in request_in response_in informational_in decoded
 eight = lit≤ tt
 

@@ -1,5 +1,6 @@
 -- A new SA's SPI is never one that the end has.
 use Rattle.std.proofs.Common.{◌≡◌, ℕ, ◌≤◌, Some, refl, ap, arith}
+use Rattle.nonce.specs.Spis.{lowest_spi}
 use Rattle.protocol.specs.Model.{Nonce, St, Sa, Seed, live, Coll, Ask, create, rekey, delete, check, Reply, made, no_such, refused, done, answered, End}
 use Rattle.protocol.specs.Invariant.{Half, Own, Faced, Request}
 use Rattle.protocol.specs.Rows.{ordered, Found, nowhere, at, find}
@@ -47,7 +48,7 @@ module _ (α β : Ghost) (P Q : Node) (asc : ordered P.rows) (h : Half (end_of �
   rekeys o d c k n l (at j t b) e =
       let f = find_at k P.rows j t b asc e in absurd (not_rekey E F o d c k n j t b l f.0 f.1 h.own h.request (h.faced j))
 
-  above : (k : ℕ) (n : Nonce) → 256 ≤ k → unless_found k n (find k P.rows) ≡ made k n → taken_as P.rows (made k n) ≡ made k n
+  above : (k : ℕ) (n : Nonce) → lowest_spi ≤ k → unless_found k n (find k P.rows) ≡ made k n → taken_as P.rows (made k n) ≡ made k n
   above k n l e = grind arith
 
   pub taken_whole : (a : Ask) (r : Reply) → high r → link_of P Q ≡ answered a r → settle P a (taken_as P.rows r) ≡ settle P a r

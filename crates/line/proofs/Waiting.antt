@@ -3,7 +3,8 @@ use Rattle.std.proofs.Common.{◌≡◌, ℕ, ◌<◌, ◌≤◌, Bool, true, �
 use Rattle.std.proofs.lemmas.List.{length-append}
 use Rattle.nonce.specs.declared.side.Side.{Side}
 use Rattle.nonce.specs.declared.side.Side.TheVariants.{A, B}
-use Rattle.channel.specs.Meaning.{other, Meaning, Without, Within}
+use Rattle.nonce.specs.Sides.{other}
+use Rattle.channel.specs.Meaning.{Meaning, Without, Within}
 use Rattle.line.specs.Meaning.{Same, Sent, Got}
 use Rattle.line.specs.Calls.{Msg, Coding, Good}
 use Rattle.line.specs.Rest.{waits, coded, Held, Short}

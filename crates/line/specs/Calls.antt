@@ -1,5 +1,5 @@
 -- What an end does at each ask and at each response; messages.
-use Rattle.std.specs.Prelude.{◌≡◌, ℕ, suc, ◌<◌, Bool, true, false, cond, List, Some, None, Option, nat_lt}
+use Rattle.std.specs.Prelude.{◌≡◌, ℕ, suc, ◌<◌, Bool, true, false, cond, List, Some, None, Option}
 use Rattle.wire.specs.declared.message.Failure.TheVariants.{NoProposalChosen, NoAdditionalSas, TemporaryFailure, ChildSaNotFound}
 use Rattle.wire.specs.declared.message.Request.{Request}
 use Rattle.wire.specs.declared.message.Request.TheVariants as requests
@@ -9,6 +9,7 @@ use Rattle.protocol.specs.Model.{Nonce, fresh, standing, superseded, closing, Sa
 use Rattle.protocol.specs.Rows.{Line, lookup, insert, remove, calm_lines, Found, nowhere, at, find}
 use Rattle.protocol.specs.Node.{Bar, Out, idle, asked, Node, sending, answer}
 use Rattle.nonce.specs.declared.side.Side.{Side}
+use Rattle.nonce.specs.Spis.{is_reserved}
 
 -- what a user may ask for
 pub data Want : Type 0 where
@@ -99,7 +100,7 @@ unless_found k n nowhere = made k n
 unless_found k n (at j s a) = refused
 
 abbrev pub taken_as : List Line → Reply → Reply
-taken_as rs (made k n) = cond (nat_lt k 256) refused (unless_found k n (find k rs))
+taken_as rs (made k n) = cond (is_reserved k) refused (unless_found k n (find k rs))
 taken_as rs no_such = no_such
 taken_as rs refused = refused
 taken_as rs done = done

@@ -2,13 +2,14 @@
 use Rattle.std.specs.Prelude.{◌≡◌, ℕ, ◌^◌, ◌≤◌, Bool, cond, ◌&&◌, List, length, Some, None, Ok, Err, Option, Result, ◌==◌}
 use Rattle.nonce.specs.Nonces.{nonce_long}
 use Rattle.nonce.specs.declared.side.Side.{Side}
+use Rattle.nonce.specs.Sides.{is_side}
 use Rattle.wire.specs.Messages.{octets_of}
 use Rattle.wire.specs.Decoding.{decoded}
 use Rattle.wire.specs.declared.message.Body.{Body}
 use Rattle.wire.specs.declared.message.Body.TheVariants as bodies
 use Rattle.wire.specs.declared.message.DecodeRefusal.{DecodeRefusal}
 use Rattle.wire.specs.declared.message.Message.{Message}
-use Rattle.protocol.specs.Model.{Nonce, is_side}
+use Rattle.protocol.specs.Model.{Nonce}
 use Rattle.line.specs.Calls.{Msg, request, response, good}
 
 abbrev pub body_of : Msg → Body Nonce

@@ -6,7 +6,8 @@ use Rattle.protocol.specs.Model.{Nonce, Ask, create, rekey, delete, check, Reply
 use Rattle.protocol.specs.Rows.{ordered}
 use Rattle.protocol.specs.Node.{stored, Out, idle, asked, Node, InStep}
 use Rattle.nonce.specs.declared.side.Side.{Side}
-use Rattle.channel.specs.Meaning.{other}
+use Rattle.nonce.specs.Sides.{other}
+use Rattle.nonce.specs.Spis.{lowest_spi}
 use Rattle.line.specs.Calls.{wire, Msg, request, response, GoodReply, Coding, Good}
 
 -- the outstanding request is the one with this ID and these words
@@ -40,7 +41,7 @@ OutSane K next (asked i a) = Good K (request i (wire a)) × spare K.top next a
 
 -- no SPI that was given out is reserved
 abbrev pub high : Reply → Type 0
-high (made k n) = 256 ≤ k
+high (made k n) = lowest_spi ≤ k
 high no_such = Unit {0}
 high refused = Unit {0}
 high done = Unit {0}
@@ -52,7 +53,7 @@ GoodStored K (Some r) = GoodReply K.top K.fine r
 -- what an end holds can be encoded
 pub record Sane (K : Coding) (P : Node) : Type 0 where
   pub spi : P.spi ≤ K.top
-  pub least : 256 ≤ P.spi
+  pub least : lowest_spi ≤ P.spi
   pub next : P.next ≤ K.top
   pub out : OutSane K P.next P.out
   pub reply : GoodStored K P.reply

@@ -1,7 +1,8 @@
 -- What a send and a receive of a whole datagram do to the meaning of a channel.
 use Rattle.std.specs.Prelude.{◌≡◌, ℕ, ◌<◌, ◌≤◌, Bool, true, false, ◌⊎◌, List, [], length, take, Some, None, Option}
 use Rattle.nonce.specs.declared.side.Side.{Side}
-use Rattle.channel.specs.Meaning.{other, Meaning, Without, Within}
+use Rattle.nonce.specs.Sides.{other}
+use Rattle.channel.specs.Meaning.{Meaning, Without, Within}
 use Rattle.channel.specs.declared.sent.Sent.{Sent as Taking}
 use Rattle.channel.specs.declared.sent.Sent.TheVariants.{Taken, NotTaken}
 

@@ -7,7 +7,8 @@ use Rattle.protocol.specs.Model.{Nonce, Link, quiet, sent, answered}
 use Rattle.protocol.specs.Node.{Out, idle, asked, Node, link_of}
 use Rattle.nonce.specs.declared.side.Side.{Side}
 use Rattle.nonce.specs.declared.side.Side.TheVariants.{A, B}
-use Rattle.channel.specs.Meaning.{other, Meaning}
+use Rattle.nonce.specs.Sides.{other}
+use Rattle.channel.specs.Meaning.{Meaning}
 use Rattle.line.specs.Calls.{wire, Msg, request, response, Coding, Good}
 use Rattle.line.specs.World.{Call, asking, resend, deliver, Answer, did, again, stopped, nothing, unused, Move}
 
@@ -97,8 +98,8 @@ tally t (x ∷ xs) [] = t
 tally t (x ∷ xs) (r ∷ rs) = tally (tallied t x.side x.call r) xs rs
 
 -- the rounds that have followed the last ask that was taken
-abbrev pub rounds_since : List Move → List Answer → ℕ
-rounds_since xs rs = (tally (record { rounds = 0; half = false }) xs rs).rounds
+abbrev pub rounds_since_ask : List Move → List Answer → ℕ
+rounds_since_ask xs rs = (tally (record { rounds = 0; half = false }) xs rs).rounds
 
 -- nothing is sent again at this call: it is no resend, or one that is refused
 abbrev pub not_resent : Call → Answer → Type 0

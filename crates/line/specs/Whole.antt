@@ -6,7 +6,7 @@ use Rattle.channel.specs.Meaning.{Meaning, Sound}
 use Rattle.line.specs.Calls.{Coding}
 use Rattle.line.specs.World.{World, Move, Answer, Run, Start}
 use Rattle.line.specs.History.{ever, GivenUpBy}
-use Rattle.line.specs.Rest.{Short, none_resent, rounds_since, Deep}
+use Rattle.line.specs.Rest.{Short, none_resent, rounds_since_ask, Deep}
 use Rattle.line.specs.Laws.{Mirrors, Succeeds}
 
 pub record Quiet {C : Type 0} (w : World C) : Type 0 where
@@ -18,7 +18,7 @@ pub record Law {C : Type 0} (K : Coding) (wide : ℕ) (meaning : C → Meaning) 
   pub mirrors : Mirrors w
   pub made_by_a : Quiet w → Succeeds (λ (u : World C). u.a) (λ (u : World C). u.b) false A B (λ F. ever K meaning F v xs rs w h) (GivenUpBy xs rs) w
   pub made_by_b : Quiet w → Succeeds (λ (u : World C). u.b) (λ (u : World C). u.a) true B A (λ F. ever K meaning F v xs rs w h) (GivenUpBy xs rs) w
-  pub rest : Sound (meaning v.ch) → Deep wide (meaning v.ch) → none_resent xs rs → 8 ≤ rounds_since xs rs → Quiet w
+  pub rest : Sound (meaning v.ch) → Deep wide (meaning v.ch) → none_resent xs rs → 8 ≤ rounds_since_ask xs rs → Quiet w
 
 -- the first n calls of a run
 pub record Front {C : Type 0} (K : Coding) (meaning : C → Meaning) (v : World C) (xs : List Move) (rs : List Answer) : Type 0 where

@@ -6,7 +6,9 @@ use Rattle.protocol.specs.Model.{Nonce, Ask}
 use Rattle.protocol.specs.Node.{Bar, sense, Out, idle, asked, Node}
 use Rattle.nonce.specs.declared.side.Side.{Side}
 use Rattle.nonce.specs.declared.side.Side.TheVariants.{A, B}
-use Rattle.channel.specs.Meaning.{other, Meaning}
+use Rattle.nonce.specs.Sides.{other}
+use Rattle.nonce.specs.Spis.{lowest_spi}
+use Rattle.channel.specs.Meaning.{Meaning}
 use Rattle.line.specs.Meaning.{Same, Sent, Got}
 use Rattle.line.specs.Calls.{Want, Allowed, ask, settle, taken_as, wire, answer_wire, Msg, request, response, Coding}
 
@@ -130,8 +132,8 @@ pub record Start {C : Type 0} (K : Coding) (meaning : C → Meaning) (v : World 
   pub spi_b : ℕ
   pub room_a : spi_a ≤ K.top
   pub room_b : spi_b ≤ K.top
-  pub least_a : 256 ≤ spi_a
-  pub least_b : 256 ≤ spi_b
+  pub least_a : lowest_spi ≤ spi_a
+  pub least_b : lowest_spi ≤ spi_b
   pub a_made : v.a ≡ made_end true spi_a id_a id_b
   pub b_made : v.b ≡ made_end false spi_b id_b id_a
   pub clean : (e : Side) (d : List ℕ) → (meaning v.ch).may e d → ⊥

@@ -3,3 +3,5 @@ pub mod Kept
 pub mod Nonces
 pub mod Order
 pub mod Names
+pub mod Sides
+pub mod Spis

@@ -7,6 +7,7 @@ pub mod both;
 pub mod methods;
 pub mod order;
 pub mod side;
+pub mod spi;
 
 /// A nonce of 16 to 32 octets; a clause sees these. The octets behind its length are zero.
 // An array and a length, a rule of the project: fixed memory and `Copy`, for which the tail has to be known.

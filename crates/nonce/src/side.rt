@@ -1,6 +1,7 @@
 //! The two ends of an IKE SA.
-ghost use Rattle.std.specs.Prelude.{Some};
+ghost use Rattle.std.specs.Prelude.{◌≡◌, Some};
 ghost use Rattle.nonce.specs.Names.{side_text};
+ghost use Rattle.nonce.specs.Sides.{other};
 
 use std::fmt;
 
@@ -9,6 +10,18 @@ use std::fmt;
 pub enum Side {
     A,
     B,
+}
+
+impl Side {
+    /// The end across the line.
+    pub fn other(self) -> Side
+        ensures { result ≡ other self }
+    {
+        match self {
+            Side::A => Side::B,
+            Side::B => Side::A,
+        }
+    }
 }
 
 impl fmt::Display for Side {

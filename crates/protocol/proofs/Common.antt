@@ -8,7 +8,8 @@ use Rattle.std.specs.declared.option.Option.TheVariants.{Some, None}
 use Rattle.nonce.specs.Order.{lowest_of, loser_by}
 use Rattle.nonce.specs.declared.side.Side.{Side}
 use Rattle.nonce.specs.declared.side.Side.TheVariants.{A, B}
-use Rattle.protocol.specs.Model.{Nonce, is_side, End, Cell, Link, opening, live, fresh, standing, superseded, closing, Sa, Seed, St, Coll, mirror, lose, sent, rekey, answered, Reply, Book, put, quiet, create, delete, check, made, no_such, refused, done, noted}
+use Rattle.nonce.specs.Sides.{is_side}
+use Rattle.protocol.specs.Model.{Nonce, End, Cell, Link, opening, live, fresh, standing, superseded, closing, Sa, Seed, St, Coll, mirror, lose, sent, rekey, answered, Reply, Book, put, quiet, create, delete, check, made, no_such, refused, done, noted}
 use Rattle.protocol.specs.Invariant.{ChildAt, Half, RowOwned, RowFaced, LinkOwned, LinkFaced, Heir, HeirIf, HeirAt, ParentLeft, Seen}
 
 vacant : (s : ℕ) (l : Link) (c : Option Cell) → RowOwned s l s c → c ≡ None

@@ -3,6 +3,7 @@ use Rattle.std.specs.Prelude.{◌≡◌, ℕ, suc, Bool, true, false, cond, not,
 use Rattle.nonce.specs.Order.{lowest_of, loser_by}
 use Rattle.nonce.specs.declared.side.Side.{Side}
 use Rattle.nonce.specs.declared.side.Side.TheVariants.{A, B}
+use Rattle.nonce.specs.Sides.{is_side}
 
 -- a nonce: its octets
 abbrev pub Nonce : Type 0
@@ -99,12 +100,6 @@ born o d n = record { peer = o; mine = false; heir = d.heir; po = d.pp; pp = d.p
 -- the asker's row for the seed d once the peer has answered with its key k and nonce n
 abbrev pub grown : ℕ → Seed → Nonce → Sa
 grown k d n = record { peer = k; mine = true; heir = d.heir; po = d.po; pp = d.pp; ni = d.ni; nr = n }
-
-abbrev pub is_side : Side → Side → Bool
-is_side A A = true
-is_side A B = false
-is_side B A = false
-is_side B B = true
 
 -- whether the new SA of this end loses, which is A if first: i and r are the nonces of its exchange, e and f those of the peer's
 unfoldable pub lose : Bool → Nonce → Nonce → Nonce → Nonce → Bool

@@ -2,6 +2,7 @@
 use Rattle.std.proofs.Common.{◌≡◌, ℕ, ◌<◌, Bool, true, false, cond, not, eqb, List, [], ◌∷◌, ◌++◌, length, filter, is_some, is_ok, IsOk, if◌then◌else◌, Some, None, Ok, Err, Option, Result, sym, refl, ap, ◌∙◌, inl, inr, arith}
 use Rattle.std.proofs.lemmas.Bool.{cases_Bool, cases_eq, eq-eqb, ne_eqb}
 use Rattle.std.proofs.lemmas.Bool.Decides.{nat_tests}
+use Rattle.nonce.specs.Spis.{last_reserved}
 use Rattle.book.specs.declared.row.Row.{Row}
 use Rattle.book.specs.declared.BookRefusal.TheVariants.{Absent}
 use Rattle.book.specs.Shelves.{Shelf, Orderly, Answer, Rising, lookup, has, insert, replace, remove, put_in, written_in, removed_from, read_in, row_or}
@@ -11,8 +12,8 @@ use Rattle.book.proofs.Lookups.{lookup_insert, lookup_replace, lookup_remove, ri
 use Rattle.strangers.specs.Sorted.{sorted, apart, apart_parts, apart_from, lookup_sorted, has_sorted, rising_sorted}
 
 -- Rows that rise are those in order where each lookup finds the same.
-sorted_is : (rs ss : List Row) → apart rs ≡ true → Rising 255 ss → ((n : ℕ) → lookup rs n ≡ lookup ss n) → sorted rs ≡ ss
-sorted_is rs ss a h e = same_rows 255 255 (sorted rs) ss (rising_sorted rs a) h (λ n. lookup_sorted rs n a ∙ e n)
+sorted_is : (rs ss : List Row) → apart rs ≡ true → Rising last_reserved ss → ((n : ℕ) → lookup rs n ≡ lookup ss n) → sorted rs ≡ ss
+sorted_is rs ss a h e = same_rows last_reserved last_reserved (sorted rs) ss (rising_sorted rs a) h (λ n. lookup_sorted rs n a ∙ e n)
 
 -- one more at the end
 lookup_pushed : (rs : List Row) (x : Row) (n : ℕ) → has rs x.own ≡ false → lookup (rs ++ (x ∷ [])) n ≡ cond (eqb x.own n) (Some x) (lookup rs n)
@@ -26,7 +27,7 @@ lookup_pushed (r ∷ rs) x n h =
           grind (arith, nat_tests)
     ]
 
-pub apart_pushed : (rs : List Row) (x : Row) → apart rs ≡ true → 255 < x.own → has rs x.own ≡ false → apart (rs ++ (x ∷ [])) ≡ true
+pub apart_pushed : (rs : List Row) (x : Row) → apart rs ≡ true → last_reserved < x.own → has rs x.own ≡ false → apart (rs ++ (x ∷ [])) ≡ true
 apart_pushed [] x a l h = apart_from x [] l refl refl
 apart_pushed (r ∷ rs) x a l h =
     let p = apart_parts r rs a in
@@ -40,10 +41,10 @@ apart_pushed (r ∷ rs) x a l h =
           apart_from r (rs ++ (x ∷ [])) p.0 m (apart_pushed rs x p.2 l no)
     ]
 
-pub sorted_pushed : (rs : List Row) (x : Row) → apart rs ≡ true → 255 < x.own → has rs x.own ≡ false → sorted (rs ++ (x ∷ [])) ≡ insert (sorted rs) x
+pub sorted_pushed : (rs : List Row) (x : Row) → apart rs ≡ true → last_reserved < x.own → has rs x.own ≡ false → sorted (rs ++ (x ∷ [])) ≡ insert (sorted rs) x
 sorted_pushed rs x a l h =
     let no : has (sorted rs) x.own ≡ false = has_sorted rs x.own a ∙ h in
-    sorted_is (rs ++ (x ∷ [])) (insert (sorted rs) x) (apart_pushed rs x a l h) (rising_insert 255 (sorted rs) x l no (rising_sorted rs a))
+    sorted_is (rs ++ (x ∷ [])) (insert (sorted rs) x) (apart_pushed rs x a l h) (rising_insert last_reserved (sorted rs) x l no (rising_sorted rs a))
     (λ n.
     let p = lookup_pushed rs x n h in
     let q = lookup_insert (sorted rs) x n no in
@@ -90,10 +91,10 @@ apart_without (r ∷ rs) k a =
 
 pub sorted_without : (rs : List Row) (k : ℕ) → apart rs ≡ true → sorted (without rs k) ≡ remove (sorted rs) k
 sorted_without rs k a =
-    sorted_is (without rs k) (remove (sorted rs) k) (apart_without rs k a) (rising_remove 255 (sorted rs) k (rising_sorted rs a))
+    sorted_is (without rs k) (remove (sorted rs) k) (apart_without rs k a) (rising_remove last_reserved (sorted rs) k (rising_sorted rs a))
     (λ n.
     lookup_without rs k n ∙ ap (λ (o : Option Row). cond (eqb k n) None o) (sym (lookup_sorted rs n a))
-    ∙ sym (lookup_remove 255 (sorted rs) k n (rising_sorted rs a)))
+    ∙ sym (lookup_remove last_reserved (sorted rs) k n (rising_sorted rs a)))
 
 -- a row is there that was read
 pub was_read : (s : Shelf) (k : ℕ) (x : Row) → Ok x ≡ read_in s k → has s.rows k ≡ true
@@ -108,20 +109,20 @@ ok_or_err e = cc
 
 -- a row that is removed and put again is written
 module _ (s : Shelf) (x : Row) (o : Orderly s) where
-  there_above : (r : Option Row) → lookup s.rows x.own ≡ r → is_some r ≡ true → 255 < x.own
+  there_above : (r : Option Row) → lookup s.rows x.own ≡ r → is_some r ≡ true → last_reserved < x.own
   there_above None e h = cc
-  there_above (Some r) e h = above_start 255 s.rows x.own r o.rises e
+  there_above (Some r) e h = above_start last_reserved s.rows x.own r o.rises e
 
   replaced : has s.rows x.own ≡ true → has (remove s.rows x.own) x.own ≡ false → insert (remove s.rows x.own) x ≡ replace s.rows x
   replaced h left =
       let l = there_above (lookup s.rows x.own) refl h in
-      let gone = rising_remove 255 s.rows x.own o.rises in
-      same_rows 255 255 (insert (remove s.rows x.own) x) (replace s.rows x) (rising_insert 255 (remove s.rows x.own) x l left gone)
-      (rising_replace 255 s.rows x o.rises)
+      let gone = rising_remove last_reserved s.rows x.own o.rises in
+      same_rows last_reserved last_reserved (insert (remove s.rows x.own) x) (replace s.rows x) (rising_insert last_reserved (remove s.rows x.own) x l left gone)
+      (rising_replace last_reserved s.rows x o.rises)
       (λ n.
       let p = lookup_insert (remove s.rows x.own) x n left in
       let q = lookup_replace s.rows x n h in
-      let r = lookup_remove 255 s.rows x.own n o.rises in
+      let r = lookup_remove last_reserved s.rows x.own n o.rises in
       grind (arith, nat_tests))
 
   pub rewritten : (m : Shelf) → (Ok tt, m) ≡ removed_from s x.own → put_in m x ≡ written_in s x
@@ -130,7 +131,7 @@ module _ (s : Shelf) (x : Row) (o : Orderly s) where
         | inl h ↦
             let f : m ≡ record { rows = remove s.rows x.own; most = s.most } = ap (λ (p : Answer × Shelf). p.1) (e ∙ remove_done s x.own h) in
             let t : eqb x.own x.own ≡ true = eq-eqb _ _ refl in
-            let no : has (remove s.rows x.own) x.own ≡ false = ap is_some (lookup_remove 255 s.rows x.own x.own o.rises) ∙ rw t refl in
+            let no : has (remove s.rows x.own) x.own ≡ false = ap is_some (lookup_remove last_reserved s.rows x.own x.own o.rises) ∙ rw t refl in
             let few : length (remove s.rows x.own) < s.most = omega (arith, length_remove s.rows x.own h, o.within) in
             rw f (put_done (record { rows = remove s.rows x.own; most = s.most }) x (omega (arith, there_above (lookup s.rows x.own) refl h)) no few
             ∙ ap (λ (rs : List Row). (Ok tt, record { rows = rs; most = s.most })) (replaced h no) ∙ sym (write_done s x h))

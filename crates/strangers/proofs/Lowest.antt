@@ -4,6 +4,7 @@ use Rattle.std.specs.List.{reduce}
 use Rattle.std.specs.Option.{ok_or}
 use Rattle.std.proofs.lemmas.Bool.{cases_Bool, cases_order, ne_eqb, lt-ltb, le-ltb}
 use Rattle.std.proofs.lemmas.Bool.Decides.{nat_tests}
+use Rattle.nonce.specs.Spis.{last_reserved}
 use Rattle.book.specs.declared.row.Row.{Row}
 use Rattle.book.specs.declared.BookRefusal.TheVariants.{Absent}
 use Rattle.book.specs.Shelves.{Rising, lookup, has, insert, first, row_or}
@@ -59,7 +60,7 @@ lowest_first q [] a = refl
 lowest_first q (r ∷ rs) a =
     let p = apart_parts r rs a in
     let ih = lowest_first q rs p.2 in
-    let f = first_insert q 255 (sorted rs) r (rising_sorted rs p.2) (has_sorted rs r.own p.2 ∙ p.1) in
+    let f = first_insert q last_reserved (sorted rs) r (rising_sorted rs p.2) (has_sorted rs r.own p.2 ∙ p.1) in
     joins (q r) ih ∙ sym f
   where
     joins : (b : Bool) → reduce min (map (λ r. r.own) (filter q rs)) ≡ first q (sorted rs) → reduce min (map (λ r. r.own) (cond b (r ∷ filter q rs) (filter q rs))) ≡ cond b (Some (lower r.own (first q (sorted rs)))) (first q (sorted rs))

@@ -8,6 +8,7 @@ ghost use Rattle.strangers.specs.Drawers.{shelved, drawer_orderly};
 use crate::any_order::Drawer;
 use book::row::Row;
 use book::{Book, BookRefusal};
+use nonce::spi::LOWEST_SPI;
 use std::alloc::{AllocError, Global};
 
 impl Drawer {
@@ -54,7 +55,7 @@ impl Book for Drawer {
     }
 
     fn put(&mut self, row: Row) -> Result<(), BookRefusal> {
-        if row.own < 256 {
+        if row.own < LOWEST_SPI {
             return Err(BookRefusal::Reserved);
         }
         if self.row(row.own).is_some() {

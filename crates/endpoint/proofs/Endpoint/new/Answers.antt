@@ -11,6 +11,6 @@ invariant_of-result g c =
       next = omega (arith, c.wide.ensures.left);
       expected = omega (arith, c.wide-2.ensures.left);
       spi = omega (arith, c.wide-3.ensures.left);
-      filed = rw l tt;
+      nonces = rw l tt;
       alone = λ _. refl;
     }
