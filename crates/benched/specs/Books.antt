@@ -81,3 +81,8 @@ peers_read times s = repeated times (λ i. peer_in (read_in s (own_of i)))
 -- what is done with a book once it is filled
 abbrev pub then_done : (Shelf → ℕ) → Filed → ℕ
 then_done done (all, s) = mixed all (done s)
+
+-- a book with the first rows, beside which the next one is put and dropped again many times
+abbrev pub put_and_drop_number : KeptNonce → (rows times : ℕ) → Shelf → ℕ
+put_and_drop_number n rows times s =
+    then_done (λ filed. counted (put_and_dropped (row_of n rows) times filed)) (filled n rows s)

@@ -1,7 +1,7 @@
 //! Loops over any book.
 ghost use Rattle.std.specs.Prelude.{◌≡◌, unwrap_or};
 ghost use Rattle.book.specs.Shelves.{read_in, find as found_in};
-ghost use Rattle.benched.specs.Books.{kept_in, own_of, peer_of, row_of, answered, filled, put_and_dropped, counted, found, peer_in, peers_read, then_done};
+ghost use Rattle.benched.specs.Books.{kept_in, own_of, peer_of, row_of, answered, filled, put_and_dropped, counted, found, peer_in, peers_read, then_done, put_and_drop_number};
 
 use crate::mixed::mixed;
 use book::row::{Beginner, KeptNonce, Row, RowState, Spis};
@@ -130,7 +130,7 @@ pub(crate) fn put_and_dropped<B: Book + Drop>(
     nonce: KeptNonce,
     times: u32,
 ) -> u64
-    ensures { result ≡ then_done (λ s. counted (put_and_dropped (row_of nonce rows) times s)) (filled nonce rows (B.Book.shelf book)) }
+    ensures { result ≡ put_and_drop_number nonce rows times (B.Book.shelf book) }
 {
     let all = fill(&mut book, rows, nonce);
     let done = put_and_drop(&mut book, &row_of(nonce, rows), times);

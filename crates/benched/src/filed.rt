@@ -1,7 +1,7 @@
 //! Books of both kinds filled and asked. What is answered does not depend on the kind.
 ghost use Rattle.std.specs.Prelude.{◌≡◌};
 ghost use Rattle.book.specs.Shelves.{empty_shelf};
-ghost use Rattle.benched.specs.Books.{kept_in, row_of, filled, put_and_dropped, counted, found, peers_read, then_done};
+ghost use Rattle.benched.specs.Books.{kept_in, filled, counted, found, peers_read, then_done, put_and_drop_number};
 
 use crate::books::{filled, found, kept_in, peers_read, put_and_dropped};
 use ordered::OrderedBook;
@@ -23,7 +23,7 @@ pub extern "C" fn benched_fill(table: bool, rows: u32, nonce: &[u8]) -> u64
 /// With so many rows in a book, puts the next and drops it again, many times.
 #[unsafe(no_mangle)]
 pub extern "C" fn benched_put_and_drop(table: bool, rows: u32, nonce: &[u8], times: u32) -> u64
-    ensures { result ≡ then_done (λ s. counted (put_and_dropped (row_of (kept_in nonce.now) rows) times s)) (filled (kept_in nonce.now) rows (empty_shelf 16)) }
+    ensures { result ≡ put_and_drop_number (kept_in nonce.now) rows times (empty_shelf 16) }
 {
     let nonce = kept_in(nonce);
     if table {
