@@ -1,5 +1,5 @@
 //! How an ordered book is a book.
-ghost use Rattle.std.specs.Prelude.{◌≡◌, ◌<◌, Bool, length, IfOk};
+ghost use Rattle.std.specs.Prelude.{◌≡◌, ◌<◌, Bool, length, IfSome, IfOk};
 ghost use Rattle.std.specs.Fn.{FnReturnsAt};
 ghost use Rattle.std.specs.List.Sorted.{IsSearchInRange};
 ghost use Rattle.std.specs.Option.{ok_or};
@@ -13,6 +13,15 @@ use arrayvec::ArrayVec;
 use book::row::Row;
 use book::{Book, BookRefusal};
 
+/// The place of the row of an own SPI.
+// by a walk: of 16 rows that is quicker than a search that branches on each step
+fn index(rows: &[Row], own: u32) -> Option<usize>
+    ensures value { result ≡ index_of rows.now own }
+    ensures within { IfSome result (λ i. i < length rows.now) }
+{
+    rows.iter().position(|row| row.own == own)
+}
+
 impl OrderedBook {
     /// A book with no rows.
     pub fn new() -> OrderedBook
@@ -24,17 +33,13 @@ impl OrderedBook {
     }
 
     /// The place of the row of an own SPI, or else the place for a new one.
-    // so many rows are below it: of 16, counting over all is quicker than a search that branches on each step
     fn place(&self, own: u32) -> Result<usize, usize>
         ensures value { result ≡ ok_or (index_of (ordered_rows self.now) own) (room (ordered_rows self.now) own) }
         ensures within { IsSearchInRange result (length (ordered_rows self.now)) }
     {
-        let rows = self.rows.as_slice();
-        let below = rows.iter().filter(|row| row.own < own).count();
-        match rows.get(below) {
-            Some(row) if row.own == own => Ok(below),
-            _ => Err(below),
-        }
+        self.rows
+            .as_slice()
+            .binary_search_by_key(&own, |row| row.own)
     }
 
     /// The place of the row of an own SPI. Refused where there is none.
@@ -42,7 +47,7 @@ impl OrderedBook {
         ensures value { result ≡ ok_or (index_of (ordered_rows self.now) own) BookRefusal.Absent }
         ensures within { IfOk result (λ i. i < length (ordered_rows self.now)) }
     {
-        self.place(own).map_err(|_| BookRefusal::Absent)
+        index(self.rows.as_slice(), own).ok_or(BookRefusal::Absent)
     }
 
     /// The own SPI of the first row that passes a test.
