@@ -1,7 +1,6 @@
 -- Two ends, each with a book of SAs and the state of its own outstanding request.
 use Rattle.std.specs.Prelude.{◌≡◌, ℕ, suc, Bool, true, false, cond, not, List, Some, None, Option, ◌==◌, ◌≢◌}
 use Rattle.nonce.specs.Order.{lowest_of, loser_by}
-use Rattle.nonce.specs.declared.side.Side.{Side}
 use Rattle.nonce.specs.declared.side.Side.TheVariants.{A, B}
 use Rattle.nonce.specs.Sides.{is_side}
 
