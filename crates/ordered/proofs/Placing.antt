@@ -6,6 +6,7 @@ use Rattle.std.specs.Ordering.{nat_cmp, ordering_index}
 use Rattle.std.proofs.lemmas.Bool.{cases_Bool, eq-eqb, ne_eqb, lt-ltb, le-ltb}
 use Rattle.std.proofs.lemmas.Bool.Decides.{nat_tests}
 use Rattle.std.proofs.lemmas.Cmp.{ranked}
+use Rattle.nonce.specs.Spis.{last_reserved}
 use Rattle.book.specs.declared.row.Row.{Row}
 use Rattle.book.specs.Shelves.{Rising, first}
 use Rattle.ordered.specs.Found.{rises_rising, index_cons}
@@ -49,17 +50,17 @@ gap_at (r ∷ rs) k (suc i) l b u =
     let w : ltb k r.own ≡ false = le-ltb _ _ (omega arith) in
     (index_cons r rs k ∙ rw (t, ih.0) refl, rw w (omega (arith, ih.1)))
 
-ranks : (rs : List Row) (k : ℕ) → Rising 255 rs → IsNonDecreasingBy (λ r. ordering_index (nat_cmp r.own k)) rs
-ranks rs k h a b d l m = let c = climbs 255 rs a b d h l m in grind (arith, nat_tests)
+ranks : (rs : List Row) (k : ℕ) → Rising last_reserved rs → IsNonDecreasingBy (λ r. ordering_index (nat_cmp r.own k)) rs
+ranks rs k h a b d l m = let c = climbs last_reserved rs a b d h l m in grind (arith, nat_tests)
 
 pub searched :
-    (rs : List Row) (k : ℕ) (r : Result ℕ ℕ) → rises 255 rs ≡ true → IsSearchInRange r (length rs) → IsBinarySearchResult (λ y. nat_cmp y.own k) rs r →
+    (rs : List Row) (k : ℕ) (r : Result ℕ ℕ) → rises last_reserved rs ≡ true → IsSearchInRange r (length rs) → IsBinarySearchResult (λ y. nat_cmp y.own k) rs r →
     r ≡ ok_or (index_of rs k) (room rs k)
 searched rs k (Ok i) h l e =
-    let f = index_at 255 rs k i (rises_rising 255 rs h) l (λ d. ranked _ k _ (sym (e d))) in
+    let f = index_at last_reserved rs k i (rises_rising last_reserved rs h) l (λ d. ranked _ k _ (sym (e d))) in
     sym (ap (λ o. ok_or o (room rs k)) f)
 searched rs k (Err i) h l e =
-    let p = e (ranks rs k (rises_rising 255 rs h)) in
+    let p = e (ranks rs k (rises_rising last_reserved rs h)) in
     let g = gap_at rs k i l (λ a d m. ranked _ k _ (sym (p.0 a d (omega arith) m))) (λ a d m n. ranked _ k _ (sym (p.1 a d m n))) in
     rw (g.0, g.1) refl
 

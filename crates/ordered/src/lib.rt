@@ -2,6 +2,7 @@
 #![tactic(auto)]
 
 ghost use Rattle.std.specs.Prelude.{◌≡◌, ◌≤◌, true};
+ghost use Rattle.nonce.specs.Spis.{last_reserved};
 ghost use Rattle.arrayvec.specs.ArrayVec.{array_vec_len};
 ghost use Rattle.ordered.specs.Places.{rises};
 
@@ -18,5 +19,5 @@ const CAPACITY: usize = 16;
 pub struct OrderedBook {
     rows: ArrayVec<Row, CAPACITY>,
     ghost most: { array_vec_len rows ≤ 16 },
-    ghost ok: { rises 255 rows.items ≡ true },
+    ghost ok: { rises last_reserved rows.items ≡ true },
 }

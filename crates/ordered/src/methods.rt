@@ -12,6 +12,7 @@ use crate::OrderedBook;
 use arrayvec::ArrayVec;
 use book::row::Row;
 use book::{Book, BookRefusal};
+use nonce::spi::LOWEST_SPI;
 
 /// The place of the row of an own SPI.
 // by a walk: of 16 rows that is quicker than a search that branches on each step
@@ -75,7 +76,7 @@ impl Book for OrderedBook {
     }
 
     fn put(&mut self, row: Row) -> Result<(), BookRefusal> {
-        if row.own < 256 {
+        if row.own < LOWEST_SPI {
             return Err(BookRefusal::Reserved);
         }
         let Err(place) = self.place(row.own) else {

@@ -1,6 +1,7 @@
 -- What a place that was found says of the rows, and the rows after each change of a slot.
 use Rattle.std.proofs.Common.{◌≡◌, ℕ, zero, suc, ◌+◌, ◌<◌, ◌≤◌, true, false, [], ◌∷◌, length, get_or, set, is_some, Some, None, Ok, Err, Option, sym, refl, ap, ◌∙◌, arith}
 use Rattle.std.specs.Option.{ok_or}
+use Rattle.nonce.specs.Spis.{last_reserved}
 use Rattle.book.specs.declared.row.Row.{Row}
 use Rattle.book.specs.declared.BookRefusal.{BookRefusal}
 use Rattle.book.specs.declared.BookRefusal.TheVariants.{Full, Absent}
@@ -38,7 +39,7 @@ read_place e s k i a h =
     ∙ sym (ap row_or (lookup_sorted s k a ∙ seek_slot s i p.0 k a p.3 p.1 p.2))
 
 pub put_none :
-    (e : BookRefusal) (s : Slots) (x : Row) (f : Option ℕ) → length s ≡ 16 → 255 < x.own → has (sorted_rows s) x.own ≡ false →
+    (e : BookRefusal) (s : Slots) (x : Row) (f : Option ℕ) → length s ≡ 16 → last_reserved < x.own → has (sorted_rows s) x.own ≡ false →
     f ≡ free_from s (home x.own) 16 → Err e ≡ ok_or f Full → (Err e, shelf s) ≡ put_in (shelf s) x
 put_none e s x f m l absent g h =
     let n = err_is f Full e h in
@@ -46,7 +47,7 @@ put_none e s x f m l absent g h =
     rw n.1 (sym (put_full (shelf s) x (omega arith) absent u))
 
 -- no row has a reserved own SPI
-slot_above : (s : Slots) (i : ℕ) (r : Row) → apart s ≡ true → get_or s i None ≡ Some r → 255 < r.own
+slot_above : (s : Slots) (i : ℕ) (r : Row) → apart s ≡ true → get_or s i None ≡ Some r → last_reserved < r.own
 slot_above [] i r a e = cc
 slot_above (None ∷ s) zero r a e = cc
 slot_above (Some y ∷ s) zero r a e = let f : y ≡ r = cc in omega (arith, (apart_parts y s a).0, ap (λ (x : Row). x.own) f)
@@ -61,7 +62,7 @@ one_free (None ∷ s) (suc i) l e = omega (arith, one_free s i (omega arith) e)
 one_free (Some r ∷ s) (suc i) l e = omega (arith, used_some r s, one_free s i (omega arith) e)
 
 pub filed_in :
-    {E : Type 0} (e : E) (s : Slots) (x : Row) (f : Option ℕ) (i : ℕ) → apart s ≡ true → length s ≡ 16 → 255 < x.own →
+    {E : Type 0} (e : E) (s : Slots) (x : Row) (f : Option ℕ) (i : ℕ) → apart s ≡ true → length s ≡ 16 → last_reserved < x.own →
     has (sorted_rows s) x.own ≡ false → f ≡ free_from s (home x.own) 16 → Ok i ≡ ok_or f e → i < 16 → Files (set s i (Some x)) (put_in (shelf s) x)
 filed_in e s x f i a m l absent g h b =
     let free = free_is s (home x.own) 16 i (ok_is f e i h ∙ g) in

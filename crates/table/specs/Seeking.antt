@@ -4,6 +4,7 @@ use Rattle.std.proofs.Common.{sym, ap, ◌∙◌, inl, inr, arith}
 use Rattle.std.proofs.lemmas.List.{set-get_or}
 use Rattle.std.proofs.lemmas.Bool.{cases_Bool, eqb-true, eqb-false, lt-ltb, ltb-true, and_parts, and_from, not-true}
 use Rattle.std.proofs.lemmas.Bool.Decides.{nat_tests}
+use Rattle.nonce.specs.Spis.{last_reserved}
 use Rattle.book.specs.declared.row.Row.{Row}
 use Rattle.table.specs.Slots.{Slots, seek, holds, apart}
 
@@ -43,13 +44,13 @@ seek_filled (Some r ∷ s) (suc i) x n l e =
     ]
 
 -- what a filled slot says of rows that are apart
-pub apart_parts : (r : Row) (s : Slots) → apart (Some r ∷ s) ≡ true → (255 < r.own) × (seek s r.own ≡ None) × (apart s ≡ true)
+pub apart_parts : (r : Row) (s : Slots) → apart (Some r ∷ s) ≡ true → (last_reserved < r.own) × (seek s r.own ≡ None) × (apart s ≡ true)
 apart_parts r s a =
     let p = and_parts _ _ a in
     let q = and_parts _ _ p.1 in
     (ltb-true _ _ p.0, none_from _ (not-true _ q.0), q.1)
 
-pub apart_from : (r : Row) (s : Slots) → 255 < r.own → seek s r.own ≡ None → apart s ≡ true → apart (Some r ∷ s) ≡ true
+pub apart_from : (r : Row) (s : Slots) → last_reserved < r.own → seek s r.own ≡ None → apart s ≡ true → apart (Some r ∷ s) ≡ true
 apart_from r s l e a = and_from _ _ (lt-ltb _ _ l) (and_from _ _ (ap (λ (o : Option Row). not (is_some o)) e) a)
 
 -- where nothing is found, no slot holds it
@@ -94,7 +95,7 @@ apart_emptied (Some r ∷ s) (suc i) a =
     apart_from r (slice_set s i None) p.0 (seek_emptied s i r.own p.1) (apart_emptied s i p.2)
 
 pub apart_filled :
-    (s : Slots) (i : ℕ) (x : Row) → i < length s → apart s ≡ true → 255 < x.own → seek (slice_set s i None) x.own ≡ None →
+    (s : Slots) (i : ℕ) (x : Row) → i < length s → apart s ≡ true → last_reserved < x.own → seek (slice_set s i None) x.own ≡ None →
     apart (slice_set s i (Some x)) ≡ true
 apart_filled [] i x l a b e = a
 apart_filled (None ∷ s) zero x l a b e = apart_from x s b e a

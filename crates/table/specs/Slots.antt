@@ -1,5 +1,6 @@
 -- Slots, each of which may hold a row.
 use Rattle.std.specs.Prelude.{ℕ, zero, suc, ◌+◌, ◌%◌, Bool, true, false, cond, not, ◌&&◌, List, [], ◌∷◌, position, count_by, is_some, Some, None, Option, ◌==◌, nat_lt, slice_index_or}
+use Rattle.nonce.specs.Spis.{last_reserved}
 use Rattle.book.specs.declared.row.Row.{Row}
 use Rattle.book.specs.Shelves.{insert}
 
@@ -33,7 +34,7 @@ place_in s k = position (λ o. holds o k) s
 abbrev pub apart : Slots → Bool
 apart [] = true
 apart (None ∷ s) = apart s
-apart (Some r ∷ s) = nat_lt 255 r.own && (not (is_some (seek s r.own)) && apart s)
+apart (Some r ∷ s) = nat_lt last_reserved r.own && (not (is_some (seek s r.own)) && apart s)
 
 -- the hashed place of an own SPI
 abbrev pub home : ℕ → ℕ

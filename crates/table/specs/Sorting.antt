@@ -5,6 +5,7 @@ use Rattle.std.proofs.lemmas.List.{set-get_or}
 use Rattle.std.proofs.lemmas.List.Sums.{sum_by-cons, count_by-le-length}
 use Rattle.std.proofs.lemmas.Bool.{cases_Bool, cases_eq, cases_order, eq-eqb, ne_eqb, lt-ltb, le-ltb}
 use Rattle.std.proofs.lemmas.Bool.Decides.{nat_tests}
+use Rattle.nonce.specs.Spis.{last_reserved}
 use Rattle.book.specs.declared.row.Row.{Row}
 use Rattle.book.specs.Shelves.{Rising, lookup, has, insert, replace, remove, first}
 use Rattle.book.proofs.Lookups.{lookup_insert, lookup_replace, lookup_remove, rising_insert, rising_replace, rising_remove, length_insert, same_rows}
@@ -23,12 +24,12 @@ lookup_sorted (Some r ∷ s) k a =
 pub has_sorted : (s : Slots) (k : ℕ) → apart s ≡ true → has (sorted_rows s) k ≡ is_some (seek s k)
 has_sorted s k a = ap is_some (lookup_sorted s k a)
 
-pub rising_sorted : (s : Slots) → apart s ≡ true → Rising 255 (sorted_rows s)
+pub rising_sorted : (s : Slots) → apart s ≡ true → Rising last_reserved (sorted_rows s)
 rising_sorted [] a = tt
 rising_sorted (None ∷ s) a = rising_sorted s a
 rising_sorted (Some r ∷ s) a =
     let p = apart_parts r s a in
-    rising_insert 255 (sorted_rows s) r p.0 (has_sorted s r.own p.2 ∙ ap is_some p.1) (rising_sorted s p.2)
+    rising_insert last_reserved (sorted_rows s) r p.0 (has_sorted s r.own p.2 ∙ ap is_some p.1) (rising_sorted s p.2)
 
 -- a slot more
 pub used_some : (r : Row) (s : Slots) → used (Some r ∷ s) ≡ 1 + used s
@@ -46,12 +47,12 @@ pub few_sorted : (s : Slots) → length s ≡ 16 → length (sorted_rows s) ≤ 
 few_sorted s l = omega (arith, length_sorted s, used_within s, l)
 
 -- Rows that rise are those of the slots where each lookup finds what the slots hold.
-pub sorted_is : (s : Slots) (rs : List Row) → apart s ≡ true → Rising 255 rs → ((n : ℕ) → seek s n ≡ lookup rs n) → sorted_rows s ≡ rs
-sorted_is s rs a h e = same_rows 255 255 (sorted_rows s) rs (rising_sorted s a) h (λ n. lookup_sorted s n a ∙ e n)
+pub sorted_is : (s : Slots) (rs : List Row) → apart s ≡ true → Rising last_reserved rs → ((n : ℕ) → seek s n ≡ lookup rs n) → sorted_rows s ≡ rs
+sorted_is s rs a h e = same_rows last_reserved last_reserved (sorted_rows s) rs (rising_sorted s a) h (λ n. lookup_sorted s n a ∙ e n)
 
 -- a free slot is filled
 pub sorted_put :
-    (s : Slots) (i : ℕ) (x : Row) → apart s ≡ true → i < length s → slice_index_or s i None ≡ None → 255 < x.own → seek s x.own ≡ None →
+    (s : Slots) (i : ℕ) (x : Row) → apart s ≡ true → i < length s → slice_index_or s i None ≡ None → last_reserved < x.own → seek s x.own ≡ None →
     (apart (slice_set s i (Some x)) ≡ true) × (sorted_rows (slice_set s i (Some x)) ≡ insert (sorted_rows s) x)
 sorted_put s i x a l f b e =
     let w : set s i None ≡ s = ap (λ (o : Option Row). set s i o) (sym f) ∙ set-get_or s i None in
@@ -59,7 +60,7 @@ sorted_put s i x a l f b e =
     let no : has (sorted_rows s) x.own ≡ false = has_sorted s x.own a ∙ ap is_some e in
     let kept = apart_filled s i x l a b others in (
       kept,
-      sorted_is (slice_set s i (Some x)) (insert (sorted_rows s) x) kept (rising_insert 255 (sorted_rows s) x b no (rising_sorted s a))
+      sorted_is (slice_set s i (Some x)) (insert (sorted_rows s) x) kept (rising_insert last_reserved (sorted_rows s) x b no (rising_sorted s a))
           (λ n.
           let p = seek_filled s i x n l others in
           let q = lookup_insert (sorted_rows s) x n no in
@@ -77,14 +78,14 @@ seek_slot s i r k a l f o =
 
 -- a row is written over one of its own SPI
 pub sorted_write :
-    (s : Slots) (i : ℕ) (r x : Row) → apart s ≡ true → i < length s → slice_index_or s i None ≡ Some r → r.own ≡ x.own → 255 < x.own →
+    (s : Slots) (i : ℕ) (r x : Row) → apart s ≡ true → i < length s → slice_index_or s i None ≡ Some r → r.own ≡ x.own → last_reserved < x.own →
     (apart (slice_set s i (Some x)) ≡ true) × (sorted_rows (slice_set s i (Some x)) ≡ replace (sorted_rows s) x)
 sorted_write s i r x a l f o b =
     let others : seek (slice_set s i None) x.own ≡ None = ap (λ k. seek (slice_set s i None) k) (sym o) ∙ seek_others s i r a f in
     let there : has (sorted_rows s) x.own ≡ true = has_sorted s x.own a ∙ ap is_some (seek_slot s i r x.own a l f o) in
     let kept = apart_filled s i x l a b others in (
       kept,
-      sorted_is (slice_set s i (Some x)) (replace (sorted_rows s) x) kept (rising_replace 255 (sorted_rows s) x (rising_sorted s a))
+      sorted_is (slice_set s i (Some x)) (replace (sorted_rows s) x) kept (rising_replace last_reserved (sorted_rows s) x (rising_sorted s a))
           (λ n.
           let p = seek_filled s i x n l others in
           let q = lookup_replace (sorted_rows s) x n there in
@@ -101,9 +102,9 @@ sorted_remove s i r k a l f o =
     let others : seek (slice_set s i None) k ≡ None = ap (λ k. seek (slice_set s i None) k) (sym o) ∙ seek_others s i r a f in
     let kept = apart_emptied s i a in (
       kept,
-      sorted_is (slice_set s i None) (remove (sorted_rows s) k) kept (rising_remove 255 (sorted_rows s) k (rising_sorted s a))
+      sorted_is (slice_set s i None) (remove (sorted_rows s) k) kept (rising_remove last_reserved (sorted_rows s) k (rising_sorted s a))
           (λ n.
-          let q = lookup_remove 255 (sorted_rows s) k n (rising_sorted s a) in
+          let q = lookup_remove last_reserved (sorted_rows s) k n (rising_sorted s a) in
           let y = lookup_sorted s n a in
           let z = seek_held s i r n a l f in
           elim (cases_eq k n) [
@@ -155,5 +156,5 @@ first_sorted q [] a = refl
 first_sorted q (None ∷ s) a = first_sorted q s a
 first_sorted q (Some r ∷ s) a =
     let p = apart_parts r s a in
-    first_insert q 255 (sorted_rows s) r (rising_sorted s p.2) (has_sorted s r.own p.2 ∙ ap is_some p.1)
+    first_insert q last_reserved (sorted_rows s) r (rising_sorted s p.2) (has_sorted s r.own p.2 ∙ ap is_some p.1)
     ∙ ap (λ o. lower (mine q (Some r)) o) (first_sorted q s p.2)

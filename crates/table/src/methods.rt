@@ -11,6 +11,7 @@ use crate::slots::{astray, holds, home, scan};
 use crate::{CAPACITY, TableBook};
 use book::row::Row;
 use book::{Book, BookRefusal};
+use nonce::spi::LOWEST_SPI;
 
 impl TableBook {
     /// A book with no rows.
@@ -101,7 +102,7 @@ impl Book for TableBook {
     }
 
     fn put(&mut self, row: Row) -> Result<(), BookRefusal> {
-        if row.own < 256 {
+        if row.own < LOWEST_SPI {
             return Err(BookRefusal::Reserved);
         }
         if self.place(row.own).is_some() {
