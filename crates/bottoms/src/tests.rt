@@ -106,7 +106,10 @@ fn fates(rt: HostRuntime) -> Result<(), Fail> {
 /// A full trace uses no fate, and with one place left twice is once.
 #[test]
 fn full(rt: HostRuntime) -> Result<(), Fail> {
-    let mut trace = Trace::new(64, Vec::from_slice(rt.alloc(), b"ppppppppppppppppppppppppppppppp2lx")?)?;
+    let mut trace = Trace::new(
+        64,
+        Vec::from_slice(rt.alloc(), b"ppppppppppppppppppppppppppppppp2lx")?,
+    )?;
     send_all(&mut trace, b"abcdefghijklmnopqrstuvwxyz01234");
     assert!(rt; takes(&mut trace, Side::B, b"5"));
     assert!(rt; !takes(&mut trace, Side::B, b"6"));
