@@ -1,7 +1,8 @@
 //! The two ends of a script, and how they are made.
 ghost use Rattle.std.specs.Prelude.{◌≡◌, [], ◌∷◌, IfOk};
 ghost use Rattle.calls.specs.Plain.{plain_move};
-ghost use Rattle.law.specs.Laws.{Lawful, GoesOn};
+ghost use Rattle.law.specs.Laws.{GoesOn};
+ghost use Rattle.law.specs.Runs.{Step};
 ghost use Rattle.pair.specs.Worlds.{world};
 ghost use Rattle.chosen.specs.Piles.{pile_behaves};
 
@@ -101,15 +102,14 @@ impl Ends {
         }
     }
 
-    /// Makes a call of an end, and draws what came and what was sent. The answer is the end's, by the law of two ends.
-    pub(crate) fn call(&mut self, heap: Global, step: Move<&[u8]>) -> Result<Answer, AllocError>
-        ensures law { IfOk result (λ answer. Lawful pile_behaves (world self.old.pair) (plain_move step.entry ∷ []) (answer ∷ []) (world self.new.pair)) }
+    /// Makes a call of an end, and draws what came and what was sent. All calls so far together keep the law of two ends.
+    pub(crate) fn call(&mut self, step: Move<&[u8]>) -> Result<Answer, AllocError>
+        ensures step { IfOk result (λ answer. Step pile_behaves (world self.old.pair) (plain_move step.entry) answer (world self.new.pair)) }
         ensures goes_on { IfOk result (λ answer. GoesOn pile_behaves (world self.old.pair) (plain_move step.entry ∷ []) (answer ∷ []) (world self.new.pair)) }
     {
         let there = step.side.other();
         let before = self.waiting(there);
-        let answers = self.pair.run(heap, &[step])?;
-        let answer = answers[0];
+        let answer = self.pair.call(step);
         let more = self.waiting(there).saturating_sub(before);
         draw(
             &mut self.ladder,

@@ -17,9 +17,10 @@ pub(crate) fn call(line: &mut Line<'_>, side: Side) -> Result<String, Stop> {
     line.words.end()?;
     let call = with_nonce(call, nonce.as_slice());
     let ends = line.desk.ends.as_mut().ok_or(Wrong::NoEnds)?;
-    let answer = ends.call(line.words.heap, Move { side, call })?;
+    let heap = line.words.heap;
+    let answer = ends.call(Move { side, call })?;
     let itself = line.words.itself()?;
-    Ok(numbers_text(line.words.heap, itself.as_str(), &[answer])?)
+    Ok(numbers_text(heap, itself.as_str(), &[answer])?)
 }
 
 /// `round N OCTETS`: a delivery to A and then one to B, N times.
@@ -33,7 +34,7 @@ pub(crate) fn round(line: &mut Line<'_>) -> Result<String, Stop> {
     for _ in 0..times {
         for side in [Side::A, Side::B] {
             let call = Call::Deliver { nonce };
-            answers.push(ends.call(line.words.heap, Move { side, call })?)?;
+            answers.push(ends.call(Move { side, call })?)?;
         }
     }
     let itself = line.words.itself()?;
