@@ -191,6 +191,14 @@ abbrev pub KeepsLaw : {C : Type 0} → Behaviour C → Type 0
 KeepsLaw {C} behaviour =
     (v : World C) (ms : List (Move (List ℕ))) (rs : List Answer) (w : World C) → Run behaviour v ms rs w → Lawful behaviour v ms rs w
 
+-- the behaviour of this meaning that leaves both relations open: its runs are all that the meaning allows
+abbrev pub left_open : {C : Type 0} → (C → Meaning) → Behaviour C
+left_open meaning = record {
+  meaning = meaning;
+  sends = λ c to octets answer c'. Unit {0};
+  gives = λ c side came c'. Unit {0};
+}
+
 -- Calls that lead from u to w, after whatever was called before: all of it together is lawful.
 abbrev pub GoesOn : {C : Type 0} → Behaviour C → World C → List (Move (List ℕ)) → List Answer → World C → Type 0
 GoesOn {C} behaviour u ms rs w =

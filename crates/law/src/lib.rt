@@ -2,7 +2,7 @@
 #![tactic(auto)]
 
 ghost use Rattle.std.specs.Prelude.{[], ◌∷◌};
-ghost use Rattle.law.specs.Laws.{KeepsLaw};
+ghost use Rattle.law.specs.Laws.{KeepsLaw, left_open};
 ghost use Rattle.law.specs.Samples.{Leads, collision, collision_numbers, mishaps, mishap_numbers};
 
 use channel::channel::Channel;
@@ -11,9 +11,11 @@ pub mod kinds;
 pub mod lines;
 
 /// The law of the definitions: over this channel, every run of two ends from their making keeps the law at every moment. It
-/// says nothing of code; that speaks of it by being held to the same definitions.
+/// says nothing of code; that speaks of it by being held to the same definitions. It holds of the runs of the channel's own
+/// behaviour, and of all that its meaning alone allows.
 pub fn definitions_keep_the_law<C: Channel>(_over: &C)
-    ensures { KeepsLaw C.Channel.behaviour }
+    ensures by_behaviour { KeepsLaw C.Channel.behaviour }
+    ensures by_meaning { KeepsLaw (left_open C.Channel.behaviour.meaning) }
 {}
 
 /// The law is not empty: there are runs that the definitions compute, a collision of two rekeys and a line that loses and
