@@ -2,7 +2,7 @@
 ghost use Rattle.std.specs.Prelude.{◌≡◌, ◌-◌, ◌<◌, ◌≤◌, ◌↔◌, true, [], length, drop, None, IsSome, IfSome};
 ghost use Rattle.channel.specs.Meaning.{Within};
 ghost use Rattle.channel.specs.Effects.{SentAs, ReceivedAs, came_in};
-ghost use Rattle.channel.specs.Marks.{mark, is_marked, passed, marked};
+ghost use Rattle.channel.specs.Marks.{mark, is_marked, passed, marked, Unmarks};
 ghost use Rattle.channel.specs.Markers.{marker_over, SendsMarked, GivesMarked};
 ghost use Rattle.channel.specs.Marking.{marked_sound};
 
@@ -85,6 +85,7 @@ impl<C: Channel> Channel for Marker<C> {
     fn send(&mut self, to: Side, datagram: &[u8]) -> Sent
         ensures effect { SentAs (marked (C.Channel.behaviour.meaning self.old.below)) (marked (C.Channel.behaviour.meaning self.new.below)) to datagram.now result }
         ensures unfit { (Within (marked (C.Channel.behaviour.meaning self.old.below)) datagram.now → ⊥) → (result ≡ Sent.NotTaken) × (self.new ≡ self.old) }
+        ensures below { Within (marked (C.Channel.behaviour.meaning self.old.below)) datagram.now → SentAs (C.Channel.behaviour.meaning self.old.below) (C.Channel.behaviour.meaning self.new.below) to (mark datagram.now) result }
         ensures exactly { SendsMarked C.Channel.behaviour self.old.below to datagram.now result self.new.below }
     {
         let len = datagram.len();
@@ -98,6 +99,7 @@ impl<C: Channel> Channel for Marker<C> {
         ensures effect { ReceivedAs (marked (C.Channel.behaviour.meaning self.old.below)) (marked (C.Channel.behaviour.meaning self.new.below)) at buffer.old buffer.new result }
         ensures short { length buffer.old < (marked (C.Channel.behaviour.meaning self.old.below)).longest → (result ≡ None) × (self.new ≡ self.old) }
         ensures idle { 0 < (marked (C.Channel.behaviour.meaning self.old.below)).depth → (marked (C.Channel.behaviour.meaning self.old.below)).waiting at ≡ [] → (result ≡ None) × (self.new ≡ self.old) }
+        ensures below { (marked (C.Channel.behaviour.meaning self.old.below)).longest ≤ length buffer.old → Unmarks (C.Channel.behaviour.meaning self.old.below) (C.Channel.behaviour.meaning self.new.below) at buffer.old buffer.new result }
         ensures exactly { (marked (C.Channel.behaviour.meaning self.old.below)).longest ≤ length buffer.old → GivesMarked C.Channel.behaviour self.old.below at (came_in buffer.new result) self.new.below }
     {
         if buffer.len() < self.longest() {
