@@ -1,5 +1,5 @@
 //! How nonces are compared.
-ghost use Rattle.std.specs.Prelude.{◌≡◌, ◌%◌, length};
+ghost use Rattle.std.specs.Prelude.{◌≡◌, ◌≤◌, ◌%◌, length};
 ghost use Rattle.nonce.specs.Order.{lower_than, lower_or, lower_of, named, lower_named, lowest_in, loser_by, loser_in, LosesIn};
 
 use crate::Nonce;
@@ -36,7 +36,9 @@ fn precedes(a: &Nonce, b: &Nonce) -> bool
 
 /// The octets of the lower of two nonces; of equal ones, of the first.
 pub fn lower<'a>(a: &'a Nonce, b: &'a Nonce) -> &'a [u8]
-    ensures { result.now ≡ lower_of a.now b.now }
+    ensures value { result.now ≡ lower_of a.now b.now }
+    ensures least { 16 ≤ length result.now }
+    ensures most { length result.now ≤ 32 }
 {
     if precedes(b, a) {
         b.as_slice()
