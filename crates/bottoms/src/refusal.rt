@@ -1,7 +1,8 @@
 //! Why a channel is not made.
-ghost use Rattle.std.specs.Prelude.{◌≡◌};
+ghost use Rattle.std.specs.Prelude.{◌≡◌, cond, Ok, Err};
 ghost use Rattle.numbered.specs.Apart.{apart_by};
 ghost use Rattle.bottoms.specs.Refusals.{make_number, make_of, make_told};
+ghost use Rattle.bottoms.specs.Stores.{in_range};
 
 use numbered::Numbered;
 
@@ -20,4 +21,15 @@ impl Numbered for MakeRefusal {
     }
 
     ghost apart = { apart_by make_number make_of make_told };
+}
+
+/// Whether a channel is made for datagrams of at most `longest` octets: for 32 to 256 it is, and anything else is refused.
+pub fn check_longest(longest: usize) -> Result<(), MakeRefusal>
+    ensures { result ≡ cond (in_range longest) (Ok tt) (Err MakeRefusal.Longest) }
+{
+    if (32..=256).contains(&longest) {
+        Ok(())
+    } else {
+        Err(MakeRefusal::Longest)
+    }
 }

@@ -1,5 +1,5 @@
 -- The bottom that a script asks for, and what is made of it.
-use Rattle.std.specs.Prelude.{◌≡◌, ℕ, Bool, true, false, Ok, Err, Result}
+use Rattle.std.specs.Prelude.{◌≡◌, ⊥, ℕ, Bool, true, false, Ok, Err, Result}
 use Rattle.bottoms.specs.Stores.{in_range}
 use Rattle.bottoms.specs.declared.refusal.MakeRefusal.{MakeRefusal}
 use Rattle.chosen.specs.Piles.{bottom_means}
@@ -29,3 +29,9 @@ is_wanted (Wanted.Trace n f) (Trace c) = true
 abbrev pub BottomMade : Wanted → Result AnyBottom MakeRefusal → Type 0
 BottomMade w (Ok c) = (is_wanted w c ≡ true) × ((bottom_means c).longest ≡ longest_wanted w)
 BottomMade w (Err e) = in_range (longest_wanted w) ≡ false
+
+-- there may be no memory only for the fates of a trace, and only where its longest is fit
+abbrev pub WantsMemory : Wanted → Type 0
+WantsMemory (Wanted.Queue n) = ⊥
+WantsMemory (Wanted.Stack n) = ⊥
+WantsMemory (Wanted.Trace n f) = in_range n ≡ true

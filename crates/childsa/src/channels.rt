@@ -1,6 +1,6 @@
 //! The commands on channels.
-ghost use Rattle.std.specs.Prelude.{◌≤◌, IfOk, string_bytes};
-ghost use Rattle.childsa.specs.Bottoms.{BottomMade};
+ghost use Rattle.std.specs.Prelude.{◌≤◌, IfOk, IfErr, string_bytes};
+ghost use Rattle.childsa.specs.Bottoms.{BottomMade, WantsMemory};
 ghost use Rattle.childsa.specs.Told.{ReceivedText};
 
 use crate::commands::Line;
@@ -8,7 +8,7 @@ use crate::desk::Desk;
 use crate::words::Words;
 use crate::wrong::{Stop, Wrong};
 use bottoms::queue::Queue;
-use bottoms::refusal::MakeRefusal;
+use bottoms::refusal::{MakeRefusal, check_longest};
 use bottoms::stack::Stack;
 use bottoms::trace::Trace;
 use channel::channel::Channel;
@@ -136,12 +136,17 @@ pub(crate) fn new_bottom(
     heap: Global,
     wanted: Wanted<'_>,
 ) -> Result<Result<AnyBottom, MakeRefusal>, AllocError>
-    ensures { IfOk result (BottomMade wanted.entry) }
+    ensures made { IfOk result (BottomMade wanted.entry) }
+    ensures memory { IfErr result (λ _. WantsMemory wanted.entry) }
 {
     Ok(match wanted {
         Wanted::Queue { longest } => Queue::new(longest as usize).map(AnyBottom::Queue),
         Wanted::Stack { longest } => Stack::new(longest as usize).map(AnyBottom::Stack),
         Wanted::Trace { longest, fates } => {
+            // before the letters are copied: what is refused wants no memory
+            if let Err(refusal) = check_longest(longest as usize) {
+                return Ok(Err(refusal));
+            }
             let letters = Vec::from_slice(heap, letters_of(fates))?;
             Trace::new(longest as usize, letters).map(AnyBottom::Trace)
         }

@@ -6,7 +6,7 @@ ghost use Rattle.bottoms.specs.Fates.{fated};
 
 use crate::datagram::datagram;
 use crate::lanes::Lanes;
-use crate::refusal::MakeRefusal;
+use crate::refusal::{MakeRefusal, check_longest};
 use crate::rule::Fate;
 use nonce::both::Both;
 use nonce::side::Side;
@@ -16,9 +16,7 @@ impl Lanes {
     pub(crate) fn new(longest: usize) -> Result<Lanes, MakeRefusal>
         ensures { result_map_both store_of (λ e. e) result ≡ fresh longest }
     {
-        if !(32..=256).contains(&longest) {
-            return Err(MakeRefusal::Longest);
-        }
+        check_longest(longest)?;
         Ok(Lanes {
             longest,
             lists: Both::default(),
