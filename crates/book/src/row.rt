@@ -175,7 +175,8 @@ impl Row {
     /// Whether two rows are of one Child SA, each as its end sees it.
     #[tactic(auto, unfolding(crate::specs::Rows::mirrors))]
     pub fn mirrors(&self, other: &Row) -> bool
-        ensures { result ≡ mirrors self.now other.now }
+        ensures value { result ≡ mirrors self.now other.now }
+        ensures both_ways { result ≡ mirrors other.now self.now }
     {
         self.exchanges(other)
             && self.began != other.began

@@ -1,7 +1,7 @@
 -- A channel of marked datagrams keeps the rules of a channel.
-use Rattle.std.specs.Prelude.{◌≡◌, ℕ, ◌-◌, ◌<◌, ◌≤◌, Bool, true, false, cond, List, ◌++◌, map, length, take, drop, replicate, Some, None, Option, MatchOption, refl}
+use Rattle.std.specs.Prelude.{◌≡◌, ℕ, ◌-◌, ◌<◌, ◌≤◌, Bool, true, false, cond, List, [], ◌++◌, map, length, take, drop, replicate, Some, None, Option, MatchOption, refl}
 use Rattle.std.proofs.Common.{sym, ap, subst, ◌∙◌, inl, inr, ⊎_elim, arith}
-use Rattle.std.proofs.lemmas.List.{length-map}
+use Rattle.std.proofs.lemmas.List.{length-map, nil_from_length}
 use Rattle.std.proofs.lemmas.Bool.{both_ways, cases_Bool, cond-true, cond-false}
 use Rattle.nonce.specs.declared.side.Side.{Side}
 use Rattle.nonce.specs.Sides.{other}
@@ -27,6 +27,10 @@ module _ (m : Meaning) where
 
   as_many : (e : Side) → length ((marked m).waiting e) ≡ length (m.waiting e)
   as_many e = length-map (m.waiting e) (drop 4)
+
+  -- where nothing waits above, nothing waits below
+  pub none_below : (e : Side) → (marked m).waiting e ≡ [] → m.waiting e ≡ []
+  none_below e h = nil_from_length (m.waiting e) (sym (as_many e) ∙ ap length h)
 
   pub marked_sound : Sound m → Sound (marked m)
   marked_sound s = record {
@@ -60,6 +64,15 @@ module _ (m n : Meaning) (side : Side) (d : List ℕ) where
           here = cut_without a.here;
           there = ap (map (drop 4)) a.there;
         };
+  }
+
+  -- what is not within the longest is not sent below
+  pub unsent_marked : {t : Sent} → (Within (marked m) d → ⊥) → SentAs (marked m) (marked m) side d t
+  unsent_marked h = record {
+    longest = refl;
+    here = λ x k. inl k;
+    there = λ x k. k;
+    adds = λ f _. absurd (h f);
   }
 
 -- ---- receiving
@@ -149,3 +162,14 @@ module _ (m n : Meaning) (side : Side) (was is : List ℕ) (answer : Option ℕ)
     by (Some k) s e =
         ⊎_elim (λ t. passes u.room k s t e wide) (λ f. dropped u.room k s f e)
         (cases_Bool (is_marked (take k u.room)))
+
+-- a short buffer: nothing is asked below
+pub short_received :
+    (m : Meaning) (side : Side) (was : List ℕ) → length was < (marked m).longest →
+    ReceivedAs (marked m) (marked m) side was was None
+short_received m side was short = record {
+  longest = refl;
+  only = λ e d h. h;
+  gives = refl;
+  removes = λ l _ _. absurd (omega arith);
+}

@@ -1,7 +1,8 @@
 -- What a place that was found says of the rows, and what a change at it does to them.
-use Rattle.std.specs.Prelude.{◌≡◌, ℕ, suc, true, cond, List, [], ◌∷◌, ◌++◌, take, drop, Some, None, Option, ◌==◌, nat_eq, nat_lt, slice_index_or, slice_set, refl}
-use Rattle.std.proofs.Common.{ap, ◌∙◌, inl, inr}
+use Rattle.std.specs.Prelude.{◌≡◌, ◌≤◌, ℕ, suc, true, cond, List, [], ◌∷◌, ◌++◌, length, take, drop, Some, None, Option, ◌==◌, nat_eq, nat_lt, slice_index_or, slice_set, refl}
+use Rattle.std.proofs.Common.{ap, ◌∙◌, inl, inr, arith}
 use Rattle.std.specs.Option.{option_map}
+use Rattle.std.proofs.lemmas.List.{length-take}
 use Rattle.std.proofs.lemmas.Bool.{cases_Bool, lt-ltb, ltb-true, and_parts, and_from}
 use Rattle.book.specs.declared.row.Row.{Row}
 use Rattle.book.specs.Shelves.{Rising, lookup, insert, replace, remove}
@@ -15,6 +16,9 @@ rises_rising k (r ∷ rs) h = let p = and_parts _ _ h in (ltb-true _ _ p.0, rise
 pub rising_rises : (k : ℕ) (rs : List Row) → Rising k rs → rises k rs ≡ true
 rising_rises k [] h = refl
 rising_rises k (r ∷ rs) h = and_from _ _ (lt-ltb _ _ h.0) (rising_rises r.own rs h.1)
+
+pub few_taken : (n : ℕ) (rs : List Row) → n ≤ 16 → length (take n rs) ≤ 16
+few_taken n rs l = omega (arith, length-take n rs, l)
 
 -- the place in one row more
 pub index_cons : (r : Row) (rs : List Row) (k : ℕ) → index_of (r ∷ rs) k ≡ cond (r.own == k) (Some 0) (option_map suc (index_of rs k))
