@@ -1,11 +1,11 @@
--- What `{:02x}` writes, and the digits that the crate `hex` reads, are those of `specs/Hex`.
-use Rattle.std.proofs.Common.{◌≡◌, ℕ, ◌+◌, ◌*◌, ◌/◌, ◌%◌, ◌^◌, ◌-◌, ◌<◌, ◌==◌, Bool, true, false, cond, List, [], ◌∷◌, ◌++◌, length, Some, None, Option, Result, Ok, Err, refl, sym, ap, ◌∙◌, arith}
+-- What `{:02x}` writes, and the digits that the crate `hex` writes and reads, are those of `specs/Hex`.
+use Rattle.std.proofs.Common.{◌≡◌, ℕ, zero, suc, ◌+◌, ◌*◌, ◌/◌, ◌%◌, ◌^◌, ◌-◌, ◌<◌, ◌==◌, Bool, true, false, cond, ◌&&◌, inl, inr, List, [], ◌∷◌, ◌++◌, length, get_or, slice_index, Some, None, Option, Result, Ok, Err, refl, sym, ap, subst, ◌∙◌, arith}
 use Rattle.std.specs.Result.{result_ok}
-use Rattle.std.proofs.lemmas.Bool.{eqb-true}
+use Rattle.std.proofs.lemmas.Bool.{eqb-true, cases_lt, and_parts}
 use Rattle.std.proofs.lemmas.Fmt.{hex_byte}
 use Rattle.std.specs.Fmt.{digits, padded_integral, format_spec}
 use Rattle.std.proofs.lemmas.Grind.{common_steps}
-use Rattle.hex.specs.Hex.{decode_of, decode_pairs, hex_digit_value, pair_value, digit_or_error, ◌>>=◌}
+use Rattle.hex.specs.Hex.{encode_lower, encode_with, lower_digits, decode_of, decode_pairs, hex_digit_value, pair_value, digit_or_error, ◌>>=◌}
 use Rattle.hex.specs.declared.error.FromHexError.{FromHexError}
 use Rattle.hex.specs.declared.error.FromHexError.TheVariants.{OddLength}
 use Rattle.texts.specs.Hex.{digit_value, pair_value as pair_of, before, from_hex, digit_char, hex_text}
@@ -17,6 +17,35 @@ pub text_more : (xs : List ℕ) (x : ℕ) → x < 256
     → hex_text (xs ++ x ∷ []) ≡ hex_text xs ++ padded_integral (format_spec 32 0 4 2 (2 ^ 64 - 1)) false [] (digits 16 false x)
 text_more [] x small = sym (hex_byte false x small)
 text_more (y ∷ ys) x small = ap (λ (t : List ℕ). digit_char (y / 16) ∷ digit_char (y % 16) ∷ t) (text_more ys x small)
+
+-- a test of each number below n, and what it says of one of them
+every : ℕ → (ℕ → Bool) → Bool
+every zero test = true
+every (suc n) test = test n && every n test
+
+one_of_every : (n : ℕ) (test : ℕ → Bool) → every n test ≡ true → (d : ℕ) → d < n → test d ≡ true
+unfolding every
+one_of_every zero test h d l = absurd (omega (arith, l))
+one_of_every (suc n) test h d l =
+    elim (cases_lt d n) [
+      | inl below ↦ one_of_every n test (and_parts (test n) (every n test) h).1 d below
+      | inr above ↦ let last : n ≡ d = omega (arith, l, above) in subst (λ (k : ℕ). test k ≡ true) last (and_parts (test n) (every n test) h).0
+    ]
+
+-- the digits of the crate `hex`
+digit_agrees : (d : ℕ) → d < 16 → slice_index lower_digits d ≡ digit_char d
+unfolding every
+digit_agrees d small = eqb-true _ _ (one_of_every 16 (λ (k : ℕ). slice_index lower_digits k == digit_char k) refl d small)
+
+-- octets as the crate `hex` writes them
+pub written_agrees : (xs : List ℕ) → ((i : ℕ) → get_or xs i 0 < 256) → encode_lower xs ≡ hex_text xs
+unfolding encode_with
+written_agrees [] small = refl
+written_agrees (x ∷ xs) small =
+    let s : x < 256 = small 0 in
+    let high = digit_agrees (x / 16) (omega (arith, s)) in
+    let low = digit_agrees (x % 16) (omega arith) in
+    rw (high, low, written_agrees xs (λ i. small (suc i))) refl
 
 -- ---- reading
 
