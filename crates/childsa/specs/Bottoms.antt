@@ -1,5 +1,5 @@
 -- The bottom that a script asks for, and what is made of it.
-use Rattle.std.specs.Prelude.{◌≡◌, ⊥, ℕ, Bool, true, false, Ok, Err, Result}
+use Rattle.std.specs.Prelude.{◌≡◌, ℕ, Bool, true, false, Ok, Err, Result}
 use Rattle.bottoms.specs.Stores.{in_range}
 use Rattle.bottoms.specs.declared.refusal.MakeRefusal.{MakeRefusal}
 use Rattle.chosen.specs.Piles.{bottom_means}
